@@ -1,0 +1,216 @@
+-- The laws of a whole body, from those of its parts.
+-- Assumes nothing.
+use Prim.Native.Nat.{ℕ, _≤_, _<_}
+use native.Mathlib.Omega.{arith}
+use mathlib.Core.Path.{_≡_, refl, sym, ap, _∙_, subst₂}
+use mathlib.Core.Logic.{inl, inr}
+use mathlib.Core.Bool.{Bool, true}
+use mathlib.Core.List.{List, [], _++_, append-assoc, map}
+use lib.ListN.{length, length-append, length-map}
+use borrow.Author.Tests.{eq-eqb}
+use Rattle.felica_format.specs.Basic.{Bytes, Step, taken, bind}
+use Rattle.felica_format.specs.Command.{Command, Element, elementsOf, fixedOf, commandOf}
+use Rattle.felica_format.specs.Layout.{Layout, boundsOf}
+use Rattle.felica_format.specs.Read.{sizeOf, readEnding, readPackage, ifCodes, readBody}
+use Rattle.felica_format.specs.Write.{Forms, idmBytes, leadBytes, codesBytes, eachBytes, elementsBytes, dataBytes, endingBytes, packageBytes, bodyBytes}
+use Rattle.felica_format.specs.Writable.{idmOk, leadOk, codesOk, oneLength, elementsOk, dataOk, rangesOf, fixedOk, packageOk, bodyOk}
+use Rattle.felica_format.proofs.Tests.{and-left, and-right, and-both}
+use Rattle.felica_format.proofs.Bytes.{allBelow-++, bytes-right}
+use Rattle.felica_format.proofs.Steps.{taken-value, taken-rest, bind-taken}
+use Rattle.felica_format.proofs.Laws.{Laws}
+use Rattle.felica_format.proofs.Parts.{idm-laws, lead-laws, codes-laws, data-laws}
+use Rattle.felica_format.proofs.Elements.{elements-laws, countBytes, elements-apart, SameOrLonger, elements-longer}
+use Rattle.felica_format.proofs.Zip.{zip-lists, zipped}
+use Rattle.felica_format.proofs.Ending.{Left, ending-back, package-back, ending-small, package-small, ending-only}
+
+-- each count fits a byte, and the fixed bytes fit the block
+pub record Narrow (l : Layout) : Type 0 where
+  pub first : boundsOf (l .first) .greatest < 256
+  pub second : boundsOf (l .second) .greatest < 256
+  pub ending : sizeOf (l .ending) ≤ 16
+
+-- the ranges of a body, part by part
+record Fits (l : Layout) (c : Command) : Type 0 where
+  idm : idmOk (l .idm) (c .idm) ≡ true
+  lead : leadOk (l .lead) (c .selector) ≡ true
+  first : codesOk (l .first) (c .first) ≡ true
+  second : codesOk (l .second) (c .second) ≡ true
+  lists : oneLength c ≡ true
+  elements : elementsOk (l .elements) (elementsOf c) ≡ true
+  blockData : dataOk (l .blockData) (length (elementsOf c)) (c .blockData) ≡ true
+  values : fixedOk (rangesOf (l .ending)) (fixedOf c) ≡ true
+  pack : packageOk (l .behind) (c .issuePackage) ≡ true
+
+fits-of : (l : Layout) (c : Command) → bodyOk l c ≡ true → Fits l c
+unfolding bodyOk
+fits-of l c ok =
+    let ok₁ = and-right _ _ ok in
+    let ok₂ = and-right _ _ ok₁ in
+    let ok₃ = and-right _ _ ok₂ in
+    let ok₄ = and-right _ _ ok₃ in
+    let ok₅ = and-right _ _ ok₄ in
+    let ok₆ = and-right _ _ ok₅ in
+    let ok₇ = and-right _ _ ok₆ in
+    record {
+      idm = and-left _ _ ok;
+      lead = and-left _ _ ok₁;
+      first = and-left _ _ ok₂;
+      second = and-left _ _ ok₃;
+      lists = and-left _ _ ok₄;
+      elements = and-left _ _ ok₅;
+      blockData = and-left _ _ ok₆;
+      values = and-left _ _ ok₇;
+      pack = and-right _ _ ok₇;
+    }
+
+of-fits : (l : Layout) (c : Command) → Fits l c → bodyOk l c ≡ true
+unfolding bodyOk
+of-fits l c h =
+    and-both (h .idm) (and-both (h .lead) (and-both (h .first) (and-both (h .second) (and-both (h .lists) (and-both (h .elements)
+    (and-both (h .blockData) (and-both (h .values) (h .pack))))))))
+
+-- A walk that took something: what its first step took, and how the walk went on. What follows from that is handed over as a function, so that it
+-- speaks of variables and not of the terms that stand for them.
+step : {A B F X : Type 0} {read : List ℕ → Step A} {write : F → A → List ℕ} {ok : A → Bool} (laws : Laws F read write ok)
+    (s : List ℕ) (next : A → List ℕ → Step B) {b : B} {r : List ℕ} → Bytes s → bind (read s) next ≡ taken b r
+    → ((a : A) (t : List ℕ) (f : F) → ok a ≡ true → s ≡ write f a ++ t → Bytes t → next a t ≡ taken b r → X) → X
+step {write = write} laws s next small e then =
+    let k = bind-taken _ next e in
+    let o = laws .only s (k .0) (k .1) small (k .2) in
+    then (k .0) (k .1) (o .0) (o .1) (o .2) (bytes-right (write (o .0) (k .0)) (k .1) (rw (o .2) at small)) (k .3)
+
+end : {A B X : Type 0} (m : Step A) (next : A → List ℕ → Step B) {b : B} {r : List ℕ} → bind m next ≡ taken b r
+    → ((a : A) (t : List ℕ) → m ≡ taken a t → next a t ≡ taken b r → X) → X
+end m next e then = let k = bind-taken m next e in then (k .0) (k .1) (k .2) (k .3)
+
+-- what was read as a body
+pub record Body (l : Layout) (code : ℕ) (s : List ℕ) (c : Command) (rest : List ℕ) : Type 0 where
+  pub forms : Forms
+  pub same : c .code ≡ code
+  pub ok : bodyOk l c ≡ true
+  pub left : Left (l .behind) rest
+  pub is : s ≡ bodyBytes l forms c ++ rest
+
+-- the command of a command's own parts
+command-of : (c : Command) → oneLength c ≡ true
+    → commandOf (c .code) (c .idm) (c .selector) (c .first) (c .second) (elementsOf c) (c .blockData) (fixedOf c) (c .issuePackage) ≡ c
+command-of c ok =
+    let z = zipped c ok in
+    λ i. record {
+      code = c .code;
+      idm = c .idm;
+      selector = c .selector;
+      first = c .first;
+      second = c .second;
+      numbers = z .numbers i;
+      places = z .places i;
+      modes = z .modes i;
+      blockData = c .blockData;
+      number = c .number;
+      index = c .index;
+      option = c .option;
+      choice = c .choice;
+      block = c .block;
+      issuePackage = c .issuePackage;
+    }
+
+one-length : (es : List Element) (c : Command)
+    → c .numbers ≡ map (λ e. e .number) es → c .places ≡ map (λ e. e .place) es → c .modes ≡ map (λ e. e .mode) es → oneLength c ≡ true
+unfolding oneLength
+one-length es c ns ps ms =
+    rw (ns, ps, ms, length-map es (λ e. e .number), length-map es (λ e. e .place), length-map es (λ e. e .mode))
+    (and-both (eq-eqb (length es) (length es) refl) (eq-eqb (length es) (length es) refl))
+
+module _ (l : Layout) (n : Narrow l) where
+  pub body-back : (forms : Forms) (c : Command) (rest : List ℕ) → bodyOk l c ≡ true → Left (l .behind) rest
+      → readBody (c .code) l (bodyBytes l forms c ++ rest) ≡ taken c rest
+  unfolding readBody bodyBytes bind
+  body-back forms c rest ok left =
+      let h = fits-of l c ok in
+      let t₈ : List ℕ = packageBytes (l .behind) (c .issuePackage) ++ rest in
+      let t₇ : List ℕ = endingBytes (l .ending) (fixedOf c) ++ t₈ in
+      let t₆ : List ℕ = dataBytes (l .blockData) (c .blockData) ++ t₇ in
+      let t₅ : List ℕ = elementsBytes (l .elements) forms (elementsOf c) ++ t₆ in
+      let t₄ : List ℕ = codesBytes (l .second) (c .second) ++ t₅ in
+      let t₃ : List ℕ = codesBytes (l .first) (c .first) ++ t₄ in
+      let t₂ : List ℕ = leadBytes (l .lead) (c .selector) ++ t₃ in
+      simp append-assoc
+      (rw (
+        idm-laws (l .idm) .back tt (c .idm) t₂ (h .idm),
+        lead-laws (l .lead) .back tt (c .selector) t₃ (h .lead),
+        codes-laws 9 10 (l .first) (n .first) .back tt (c .first) t₄ (h .first),
+        codes-laws 11 12 (l .second) (n .second) .back tt (c .second) t₅ (h .second),
+        elements-laws (ifCodes (l .first) 11 9) (ifCodes (l .first) 12 10) (l .elements) .back forms (elementsOf c) t₆ (h .elements),
+        data-laws (l .blockData) (length (elementsOf c)) .back tt (c .blockData) t₇ (h .blockData),
+        ending-back (l .ending) (l .behind) (fixedOf c) (c .issuePackage) rest (n .ending) (h .values) (h .pack) left,
+        package-back (l .behind) (c .issuePackage) rest (h .pack) left,
+      )
+      (ap (λ (d : Command). taken d rest) (command-of c (h .lists))))
+
+  pub body-only : (code : ℕ) (s : List ℕ) (c : Command) (rest : List ℕ) → Bytes s → readBody code l s ≡ taken c rest → Body l code s c rest
+  unfolding readBody bodyBytes
+  body-only code s c rest small e =
+      step (idm-laws (l .idm)) s _ small e λ idm s₁ _ ok₁ is₁ small₁ e₁.
+      step (lead-laws (l .lead)) s₁ _ small₁ e₁ λ selector s₂ _ ok₂ is₂ small₂ e₂.
+      step (codes-laws 9 10 (l .first) (n .first)) s₂ _ small₂ e₂ λ first s₃ _ ok₃ is₃ small₃ e₃.
+      step (codes-laws 11 12 (l .second) (n .second)) s₃ _ small₃ e₃ λ second s₄ _ ok₄ is₄ small₄ e₄.
+      step (elements-laws (ifCodes (l .first) 11 9) (ifCodes (l .first) 12 10) (l .elements)) s₄ _ small₄ e₄ λ elements s₅ forms ok₅ is₅ small₅ e₅.
+      step (data-laws (l .blockData) (length elements)) s₅ _ small₅ e₅ λ blockData s₆ _ ok₆ is₆ small₆ e₆.
+      end (readEnding (l .ending) (l .behind) s₆) _ e₆ λ values s₇ r₇ e₇.
+      end (readPackage (l .behind) s₇) _ e₇ λ pack s₈ r₈ e₈.
+      let o = ending-only (l .ending) (l .behind) s₆ values s₇ pack s₈ (n .ending) small₆ r₇ r₈ in
+      let d : Command = commandOf code idm selector first second elements blockData values pack in
+      let z : elementsOf d ≡ elements = zip-lists elements in
+      let fits : Fits l d = record {
+        idm = ok₁;
+        lead = ok₂;
+        first = ok₃;
+        second = ok₄;
+        lists = one-length elements d refl refl refl;
+        elements = rw z ok₅;
+        blockData = rw z ok₆;
+        values = o .0;
+        pack = o .1;
+      } in
+      let is : s ≡ bodyBytes l forms d ++ s₈ = rw z (simp append-assoc (rw (is₁, is₂, is₃, is₄, is₅, is₆, o .3))) in
+      subst₂ (λ (x : Command) (y : List ℕ). Body l code s x y) (taken-value e₈) (taken-rest e₈)
+      (record { forms = forms; same = refl; ok = of-fits l d fits; left = o .2; is = is })
+
+  pub body-small : (forms : Forms) (c : Command) → bodyOk l c ≡ true → Bytes (bodyBytes l forms c)
+  unfolding bodyBytes
+  body-small forms c ok =
+      let h = fits-of l c ok in
+      simp allBelow-++
+      (and-both (idm-laws (l .idm) .small tt (c .idm) (h .idm))
+      (and-both (lead-laws (l .lead) .small tt (c .selector) (h .lead))
+      (and-both (codes-laws 9 10 (l .first) (n .first) .small tt (c .first) (h .first))
+      (and-both (codes-laws 11 12 (l .second) (n .second) .small tt (c .second) (h .second))
+      (and-both (elements-laws 9 10 (l .elements) .small forms (elementsOf c) (h .elements))
+      (and-both (data-laws (l .blockData) (length (elementsOf c)) .small tt (c .blockData) (h .blockData))
+      (and-both (ending-small (l .ending) (fixedOf c) (h .values)) (package-small (l .behind) (c .issuePackage) (h .pack)))))))))
+
+-- a body is the same before and after its elements, whatever their forms
+unfoldable pub beforeElements : Layout → Command → List ℕ
+beforeElements l c =
+    idmBytes (l .idm) (c .idm)
+    ++ (leadBytes (l .lead) (c .selector)
+    ++ (codesBytes (l .first) (c .first)
+    ++ (codesBytes (l .second) (c .second)
+    ++ countBytes (l .elements) (elementsOf c))))
+
+unfoldable pub afterElements : Layout → Command → List ℕ
+afterElements l c = dataBytes (l .blockData) (c .blockData) ++ (endingBytes (l .ending) (fixedOf c) ++ packageBytes (l .behind) (c .issuePackage))
+
+pub body-around : (l : Layout) (forms : Forms) (c : Command) → bodyOk l c ≡ true
+    → bodyBytes l forms c ≡ beforeElements l c ++ (eachBytes forms (elementsOf c) ++ afterElements l c)
+unfolding bodyBytes beforeElements afterElements
+body-around l forms c ok = rw (elements-apart (l .elements) forms (elementsOf c) (fits-of l c ok .elements)) (simp append-assoc)
+
+-- of all choices of forms the all-short one is the shortest
+pub body-longer : (l : Layout) (forms : Forms) (c : Command) → SameOrLonger (bodyBytes l forms c) (bodyBytes l [] c)
+unfolding bodyBytes
+body-longer l forms c = go (elements-longer (l .elements) forms (elementsOf c))
+  where
+    go : SameOrLonger (elementsBytes (l .elements) forms (elementsOf c)) (elementsBytes (l .elements) [] (elementsOf c)) → SameOrLonger (bodyBytes l forms c) (bodyBytes l [] c)
+    go (inl p) = inl (rw p)
+    go (inr p) = inr (simp length-append (omega arith))

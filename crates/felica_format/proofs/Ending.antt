@@ -1,0 +1,261 @@
+-- The laws of the fixed bytes that end a body, and of what stands behind them.
+-- Assumes nothing.
+use Prim.Native.Nat.{ℕ, zero, suc, _+_, _/_, _%_, _-_, _≤_, _<_}
+use native.Mathlib.Omega.{arith}
+use mathlib.Core.Path.{_≡_, refl, sym, ap, _∙_, subst₂}
+use mathlib.Core.Bool.{true, false}
+use mathlib.Core.List.{List, [], _∷_, _++_, append-nil}
+use lib.ListN.{length, getD, take, drop, length-append, length-replicate, take-append-drop}
+use lib.Seq.{take-at, drop-at, length-take-le}
+use borrow.Author.Tests.{ltb-true, ltb-false, eqb-true, not-false, lt-ltb, le-ltb, eq-eqb}
+use Rattle.felica_format.specs.Basic.{_and_, Bytes, isOneOf, zeros, wordOf, wordAt, taken, refuseIf}
+use Rattle.felica_format.specs.Command.{Fixed}
+use Rattle.felica_format.specs.Layout.{Ending, bytes, word, words, reserved, polling, parameter, Behind, nothing, ignoredBytes, aPackage}
+use Rattle.felica_format.specs.Read.{sizeOf, timeSlots, zeroAt, fixed, readValues, tooLong, readEnding, readPackage}
+use Rattle.felica_format.specs.Write.{endingBytes, packageBytes}
+use Rattle.felica_format.specs.Writable.{Ranges, ranges, rangesOf, fixedOk, packageOk, isEmpty}
+use Rattle.felica_format.proofs.Tests.{tests, and-left, and-right, and-both, sameList-true, sameList-refl, isEmpty-true, length-zero, one-below}
+use Rattle.felica_format.proofs.Bytes.{allBelow-++, bytes-right, bytes-take, bytes-zeros, byte-below, firsts-drop}
+use Rattle.felica_format.proofs.Steps.{taken-value, taken-rest, refuseIf-passed, refuseIf-taken}
+
+same-taken : {n n′ i i′ o o′ c c′ : ℕ} {b b′ r r′ : List ℕ} → n ≡ n′ → i ≡ i′ → o ≡ o′ → c ≡ c′ → b ≡ b′ → r ≡ r′
+    → taken (fixed n i o c b) r ≡ taken (fixed n′ i′ o′ c′ b′) r′
+same-taken p q r s t u = λ k. taken (record { number = p k; index = q k; option = r k; choice = s k; block = t k }) (u k)
+
+one-of-zero : (x : ℕ) → isOneOf (0 ∷ []) x ≡ true → x < 1
+one-of-zero x e = one-below 1 (0 ∷ []) x (and-both refl refl) e
+
+one-of-bits : (x : ℕ) → isOneOf (0 ∷ 1 ∷ []) x ≡ true → x < 2
+one-of-bits x e = one-below 2 (0 ∷ 1 ∷ []) x (and-both refl (and-both refl refl)) e
+
+bits-one-of : (x : ℕ) → x ≤ 1 → isOneOf (0 ∷ 1 ∷ []) x ≡ true
+bits-one-of zero h = refl
+bits-one-of (suc zero) h = refl
+bits-one-of (suc (suc x)) h = absurd (omega arith)
+
+-- what its ranges say of each fixed field
+record In (r : Ranges) (f : Fixed) : Type 0 where
+  number : f .number < r .numbers
+  index : f .index < r .indices
+  option : f .option < r .options
+  choice : isOneOf (r .choices) (f .choice) ≡ true
+  size : length (f .block) ≡ 16
+  small : Bytes (f .block)
+  blank : drop (r .filled) (f .block) ≡ zeros (16 - r .filled)
+
+fixed-in : (r : Ranges) (f : Fixed) → fixedOk r f ≡ true → In r f
+unfolding fixedOk
+fixed-in r f ok =
+    let ok₁ = and-right _ _ (and-right _ _ (and-right _ _ ok)) in
+    let ok₂ = and-right _ _ ok₁ in
+    record {
+      number = ltb-true _ _ (and-left _ _ ok);
+      index = ltb-true _ _ (and-left _ _ (and-right _ _ ok));
+      option = ltb-true _ _ (and-left _ _ (and-right _ _ (and-right _ _ ok)));
+      choice = and-left _ _ ok₁;
+      size = eqb-true _ _ (and-left _ _ (and-left _ _ ok₂));
+      small = and-right _ _ (and-left _ _ ok₂);
+      blank = sameList-true _ _ (and-right _ _ ok₂);
+    }
+
+in-fixed : (r : Ranges) (f : Fixed) → In r f → fixedOk r f ≡ true
+unfolding fixedOk
+in-fixed r f h =
+    and-both (lt-ltb _ _ (h .number)) (and-both (lt-ltb _ _ (h .index)) (and-both (lt-ltb _ _ (h .option)) (and-both (h .choice)
+    (and-both (and-both (eq-eqb _ _ (h .size)) (h .small)) (rw (h .blank) (sameList-refl (zeros (16 - r .filled))))))))
+
+-- what was written
+values-back : (e : Ending) (f : Fixed) (rest : List ℕ) → sizeOf e ≤ 16 → In (rangesOf e) f → readValues e (endingBytes e f ++ rest) ≡ taken f rest
+unfolding readValues endingBytes refuseIf _and_
+values-back (bytes n) f rest short h =
+    let c = one-of-zero (f .choice) (h .choice) in
+    let len : length (take n (f .block)) ≡ n = length-take-le n (f .block) (omega (arith, h .size)) in
+    same-taken (omega arith) (omega arith) (omega arith) (omega arith)
+    (rw (take-at (take n (f .block)) rest n len, ← h .blank) (take-append-drop n (f .block)))
+    (drop-at (take n (f .block)) rest n len)
+values-back word f rest short h =
+    let c = one-of-zero (f .choice) (h .choice) in
+    same-taken (omega arith) (omega arith) (omega arith) (omega arith) (sym (h .blank)) refl
+values-back words f rest short h =
+    let c = one-of-zero (f .choice) (h .choice) in
+    same-taken (omega arith) (omega arith) (omega arith) (omega arith) (sym (h .blank)) refl
+values-back reserved f rest short h =
+    let c = one-of-zero (f .choice) (h .choice) in
+    same-taken (omega arith) (omega arith) (omega arith) (omega arith) (sym (h .blank)) refl
+values-back polling f rest short h =
+    rw (le-ltb 2 (f .option) (omega arith), h .choice)
+    (same-taken (omega arith) (omega arith) refl refl (sym (h .blank)) refl)
+values-back parameter f rest short h =
+    let c = one-of-bits (f .choice) (h .choice) in
+    rw (le-ltb 1 (f .option) (omega arith), le-ltb 1 (f .choice) (omega arith))
+    (same-taken (omega arith) (omega arith) refl refl (sym (h .blank)) refl)
+
+ending-length : (e : Ending) (f : Fixed) → sizeOf e ≤ 16 → In (rangesOf e) f → length (endingBytes e f) ≡ sizeOf e
+unfolding endingBytes
+ending-length (bytes n) f short h = length-take-le n (f .block) (omega (arith, h .size))
+ending-length word f short h = refl
+ending-length words f short h = refl
+ending-length reserved f short h = refl
+ending-length polling f short h = refl
+ending-length parameter f short h = refl
+
+values-small : (e : Ending) (f : Fixed) → In (rangesOf e) f → Bytes (endingBytes e f)
+unfolding endingBytes
+values-small (bytes n) f h = bytes-take n (f .block) (h .small)
+values-small word f h = and-both (omega tests) (and-both (omega tests) refl)
+values-small words f h = and-both (omega tests) (and-both (omega tests) (and-both (omega tests) (and-both (omega tests) refl)))
+values-small reserved f h = bytes-zeros 2
+values-small polling f h =
+    let c = one-below 16 timeSlots (f .choice) (and-both refl (and-both refl (and-both refl (and-both refl (and-both refl refl))))) (h .choice) in
+    and-both (omega tests) (and-both (omega tests) (and-both (omega tests) (and-both (omega tests) refl)))
+values-small parameter f h =
+    let c = one-of-bits (f .choice) (h .choice) in
+    and-both refl (and-both refl (and-both refl (and-both refl (and-both (omega tests) (and-both (omega tests) (bytes-zeros 2))))))
+
+-- what was read
+Values : Ending → List ℕ → Fixed → List ℕ → Type 0
+Values e s f rest = In (rangesOf e) f × (s ≡ endingBytes e f ++ rest)
+
+values-as : (e : Ending) (s : List ℕ) {f g : Fixed} {r t : List ℕ} → taken g t ≡ taken f r → Values e s g t → Values e s f r
+values-as e s q h = subst₂ (λ (x : Fixed) (y : List ℕ). Values e s x y) (taken-value q) (taken-rest q) h
+
+-- no block
+in-blank : {n i o c ns is os : ℕ} {cs : List ℕ} → n < ns → i < is → o < os → isOneOf cs c ≡ true → In (ranges ns is os cs 0) (fixed n i o c (zeros 16))
+in-blank p q r t = record { number = p; index = q; option = r; choice = t; size = refl; small = bytes-zeros 16; blank = refl }
+
+values-only : (e : Ending) (s : List ℕ) (f : Fixed) (rest : List ℕ) → sizeOf e ≤ 16 → sizeOf e ≤ length s → Bytes s → readValues e s ≡ taken f rest → Values e s f rest
+unfolding readValues endingBytes Values
+values-only (bytes n) s f rest short enough small r =
+    let len : length (take n s) ≡ n = length-take-le n s enough in
+    let all : length (take n s ++ zeros (16 - n)) ≡ length (take n s) + length (zeros (16 - n)) = length-append (take n s) (zeros (16 - n)) in
+    let left : length (zeros (16 - n)) ≡ 16 - n = length-replicate (16 - n) 0 in
+    values-as (bytes n) s r (
+      record {
+        number = omega arith;
+        index = omega arith;
+        option = omega arith;
+        choice = refl;
+        size = omega arith;
+        small = rw allBelow-++ (and-both (bytes-take n s small) (bytes-zeros (16 - n)));
+        blank = drop-at (take n s) (zeros (16 - n)) n len;
+      },
+      rw (take-at (take n s) (zeros (16 - n)) n len) (sym (take-append-drop n s)),
+    )
+values-only word s f rest short enough small r =
+    let a = byte-below 0 s small in
+    let b = byte-below 1 s small in
+    let low : wordAt s 0 % 256 ≡ getD s 0 0 = omega arith in
+    let high : wordAt s 0 / 256 ≡ getD s 1 0 = omega arith in
+    values-as word s r (in-blank (omega arith) (omega arith) (omega arith) refl, rw (low, high) (firsts-drop 2 s enough))
+values-only words s f rest short enough small r =
+    let a = byte-below 0 s small in
+    let b = byte-below 1 s small in
+    let c = byte-below 2 s small in
+    let d = byte-below 3 s small in
+    let low : wordAt s 0 % 256 ≡ getD s 0 0 = omega arith in
+    let high : wordAt s 0 / 256 ≡ getD s 1 0 = omega arith in
+    let low₂ : wordAt s 2 % 256 ≡ getD s 2 0 = omega arith in
+    let high₂ : wordAt s 2 / 256 ≡ getD s 3 0 = omega arith in
+    values-as words s r (in-blank (omega arith) (omega arith) (omega arith) refl, rw (low, high, low₂, high₂) (firsts-drop 4 s enough))
+values-only reserved s f rest short enough small r =
+    let z : zeroAt 2 s 0 ≡ true = not-false _ (refuseIf-passed _ _ _ r) in
+    let a : getD s 0 0 ≡ 0 = eqb-true _ _ (and-left _ _ z) in
+    let b : getD s 1 0 ≡ 0 = eqb-true _ _ (and-left _ _ (and-right _ _ z)) in
+    values-as reserved s (refuseIf-taken _ _ _ r) (in-blank (omega arith) (omega arith) (omega arith) refl, rw (a, b) at (firsts-drop 2 s enough))
+values-only polling s f rest short enough small r =
+    let o : getD s 2 0 ≤ 2 = ltb-false _ _ (refuseIf-passed _ _ _ r) in
+    let r₁ = refuseIf-taken _ _ _ r in
+    let c : isOneOf timeSlots (getD s 3 0) ≡ true = not-false _ (refuseIf-passed _ _ _ r₁) in
+    let a = byte-below 0 s small in
+    let b = byte-below 1 s small in
+    let low : wordOf (getD s 1 0) (getD s 0 0) % 256 ≡ getD s 1 0 = omega arith in
+    let high : wordOf (getD s 1 0) (getD s 0 0) / 256 ≡ getD s 0 0 = omega arith in
+    values-as polling s (refuseIf-taken _ _ _ r₁) (in-blank (omega arith) (omega arith) (omega arith) c, rw (low, high) (firsts-drop 4 s enough))
+values-only parameter s f rest short enough small r =
+    let z : zeroAt 4 s 0 ≡ true = not-false _ (refuseIf-passed _ _ _ r) in
+    let r₁ = refuseIf-taken _ _ _ r in
+    let y : zeroAt 2 s 6 ≡ true = not-false _ (refuseIf-passed _ _ _ r₁) in
+    let r₂ = refuseIf-taken _ _ _ r₁ in
+    let o : getD s 4 0 ≤ 1 = ltb-false _ _ (refuseIf-passed _ _ _ r₂) in
+    let r₃ = refuseIf-taken _ _ _ r₂ in
+    let c : getD s 5 0 ≤ 1 = ltb-false _ _ (refuseIf-passed _ _ _ r₃) in
+    let d0 : getD s 0 0 ≡ 0 = eqb-true _ _ (and-left _ _ z) in
+    let d1 : getD s 1 0 ≡ 0 = eqb-true _ _ (and-left _ _ (and-right _ _ z)) in
+    let d2 : getD s 2 0 ≡ 0 = eqb-true _ _ (and-left _ _ (and-right _ _ (and-right _ _ z))) in
+    let d3 : getD s 3 0 ≡ 0 = eqb-true _ _ (and-left _ _ (and-right _ _ (and-right _ _ (and-right _ _ z)))) in
+    let d6 : getD s 6 0 ≡ 0 = eqb-true _ _ (and-left _ _ y) in
+    let d7 : getD s 7 0 ≡ 0 = eqb-true _ _ (and-left _ _ (and-right _ _ y)) in
+    values-as parameter s (refuseIf-taken _ _ _ r₃)
+    (in-blank (omega arith) (omega arith) (omega arith) (bits-one-of _ c), rw (d0, d1, d2, d3, d6, d7) at (firsts-drop 8 s enough))
+
+-- What may be left behind a body: bytes where they are ignored, else nothing.
+unfoldable pub Left : Behind → List ℕ → Type 0
+Left nothing rest = rest ≡ []
+Left ignoredBytes rest = Bytes rest
+Left aPackage rest = rest ≡ []
+
+pub left-none : (b : Behind) → Left b []
+unfolding Left
+left-none nothing = refl
+left-none ignoredBytes = refl
+left-none aPackage = refl
+
+pub left-small : (b : Behind) (rest : List ℕ) → Left b rest → Bytes rest
+unfolding Left
+left-small nothing rest h = rw h
+left-small ignoredBytes rest h = h
+left-small aPackage rest h = rw h
+
+-- it does not make the body too long
+left-fits : (b : Behind) (pack rest : List ℕ) (n : ℕ) → packageOk b pack ≡ true → Left b rest → tooLong b n (n + length (packageBytes b pack ++ rest)) ≡ false
+unfolding packageBytes Left
+left-fits nothing pack rest n ok h = let e : length rest ≡ 0 = ap length h in omega tests
+left-fits ignoredBytes pack rest n ok h = refl
+left-fits aPackage pack rest n ok h = refl
+
+pub ending-back : (e : Ending) (b : Behind) (f : Fixed) (pack rest : List ℕ) → sizeOf e ≤ 16 → fixedOk (rangesOf e) f ≡ true → packageOk b pack ≡ true → Left b rest
+    → readEnding e b (endingBytes e f ++ (packageBytes b pack ++ rest)) ≡ taken f (packageBytes b pack ++ rest)
+unfolding readEnding refuseIf
+ending-back e b f pack rest short ok pok left =
+    let h = fixed-in (rangesOf e) f ok in
+    let after : List ℕ = packageBytes b pack ++ rest in
+    let size = ending-length e f short h in
+    let len : length (endingBytes e f ++ after) ≡ sizeOf e + length after = rw (length-append (endingBytes e f) after, size) in
+    rw (len, le-ltb (sizeOf e + length after) (sizeOf e) (omega arith), left-fits b pack rest (sizeOf e) pok left) (values-back e f after short h)
+
+pub package-back : (b : Behind) (pack rest : List ℕ) → packageOk b pack ≡ true → Left b rest → readPackage b (packageBytes b pack ++ rest) ≡ taken pack rest
+unfolding readPackage packageBytes packageOk Left
+package-back nothing pack rest ok left = rw (isEmpty-true pack ok)
+package-back ignoredBytes pack rest ok left = rw (isEmpty-true pack ok)
+package-back aPackage pack rest ok left = rw (left, append-nil)
+
+pub package-small : (b : Behind) (pack : List ℕ) → packageOk b pack ≡ true → Bytes (packageBytes b pack)
+unfolding packageBytes packageOk
+package-small nothing pack ok = refl
+package-small ignoredBytes pack ok = refl
+package-small aPackage pack ok = ok
+
+pub ending-small : (e : Ending) (f : Fixed) → fixedOk (rangesOf e) f ≡ true → Bytes (endingBytes e f)
+ending-small e f ok = values-small e f (fixed-in (rangesOf e) f ok)
+
+package-only : (b : Behind) (n : ℕ) (after pack rest : List ℕ) → Bytes after → tooLong b n (n + length after) ≡ false
+    → readPackage b after ≡ taken pack rest → (packageOk b pack ≡ true) × Left b rest × (after ≡ packageBytes b pack ++ rest)
+unfolding readPackage packageBytes packageOk Left
+package-only nothing n after pack rest small fits r =
+    let none : isEmpty after ≡ true = length-zero after (omega tests) in
+    (rw (← taken-value r), sym (taken-rest r) ∙ isEmpty-true after none, taken-rest r)
+package-only ignoredBytes n after pack rest small fits r = (rw (← taken-value r), rw (← taken-rest r) small, taken-rest r)
+package-only aPackage n after pack rest small fits r = (rw (← taken-value r) small, sym (taken-rest r), rw (← taken-value r, ← taken-rest r) (sym (append-nil after)))
+
+pub ending-only : (e : Ending) (b : Behind) (s : List ℕ) (f : Fixed) (after pack rest : List ℕ) → sizeOf e ≤ 16 → Bytes s
+    → readEnding e b s ≡ taken f after → readPackage b after ≡ taken pack rest
+    → (fixedOk (rangesOf e) f ≡ true) × (packageOk b pack ≡ true) × Left b rest × (s ≡ endingBytes e f ++ (packageBytes b pack ++ rest))
+unfolding readEnding Values
+ending-only e b s f after pack rest short small r q =
+    let enough : sizeOf e ≤ length s = ltb-false _ _ (refuseIf-passed _ _ _ r) in
+    let r₁ = refuseIf-taken _ _ _ r in
+    let fits : tooLong b (sizeOf e) (length s) ≡ false = refuseIf-passed _ _ _ r₁ in
+    let v = values-only e s f after short enough small (refuseIf-taken _ _ _ r₁) in
+    let len : length s ≡ sizeOf e + length after = ap length (v .1) ∙ rw (length-append, ending-length e f short (v .0)) in
+    let p = package-only b (sizeOf e) after pack rest (bytes-right (endingBytes e f) after (rw (v .1) at small)) (rw len at fits) q in
+    (in-fixed (rangesOf e) f (v .0), p .0, p .1, v .1 ∙ ap (λ (t : List ℕ). endingBytes e f ++ t) (p .2))

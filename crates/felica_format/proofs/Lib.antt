@@ -1,0 +1,14 @@
+pub mod Examples
+pub mod Tests
+pub mod Bytes
+pub mod Steps
+pub mod Laws
+pub mod Parts
+pub mod Elements
+pub mod Zip
+pub mod Ending
+pub mod Body
+pub mod Rows
+pub mod Demand3
+pub mod Members
+pub mod ClassTable

@@ -1,0 +1,145 @@
+-- What holds of every row of the two tables, computed once over the rows.
+-- Assumes nothing.
+use Prim.Native.Nat.{ℕ, _<_}
+use mathlib.Core.Path.{_≡_, refl, sym, ap, _∙_, subst}
+use mathlib.Core.Logic.{inl, inr}
+use mathlib.Core.Bool.{Bool, true, false, cond, _||_, true≢false}
+use mathlib.Core.List.{List, [], _∷_}
+use lib.Dec.{ltb, leb, eqb}
+use borrow.Author.Tests.{ltb-true, leb-true, eqb-true}
+use Rattle.felica_format.specs.declared.classes.Class.{Class}
+use Rattle.felica_format.specs.declared.classes.Class.the-variants.{Plain, Secure, Unknown}
+use Rattle.felica_format.specs.Basic.{_and_, isOneOf}
+use Rattle.felica_format.specs.Layout.{Codes, noCodes, _to_, Behind, nothing, ignoredBytes, aPackage, Layout, Row, plainRows, secureRows}
+use Rattle.felica_format.specs.Layout.{has, classOf, layoutIn, layoutOf, boundsOf}
+use Rattle.felica_format.specs.Read.{sizeOf}
+use Rattle.felica_format.specs.Demand3.{secureReadsAndWrites, MayFollow}
+use Rattle.felica_format.proofs.Tests.{and-left, and-right, and-both}
+use Rattle.felica_format.proofs.Ending.{Left}
+use Rattle.felica_format.proofs.Body.{Narrow}
+
+everyRow : (ℕ → Layout → Bool) → List Row → Bool
+everyRow test [] = true
+everyRow test (row ∷ rows) = test (row .code) (row .layout) and everyRow test rows
+
+in-rows : (test : ℕ → Layout → Bool) (rows : List Row) (code : ℕ) → everyRow test rows ≡ true → has rows code ≡ true → test code (layoutIn rows code) ≡ true
+unfolding everyRow has layoutIn
+in-rows test [] code all h = absurd (true≢false (sym h))
+in-rows test (row ∷ rows) code all h = go (eqb code (row .code)) refl h (in-rows test rows code (and-right _ _ all))
+  where
+    go : (b : Bool) → eqb code (row .code) ≡ b → (b || has rows code) ≡ true → (has rows code ≡ true → test code (layoutIn rows code) ≡ true)
+        → test code (cond b (row .layout) (layoutIn rows code)) ≡ true
+    go true q h later = subst (λ (k : ℕ). test k (row .layout) ≡ true) (sym (eqb-true code (row .code) q)) (and-left _ _ all)
+    go false q h later = later h
+
+-- a plain code has a row in the first table; a secure one has none there, and one in the second
+plain-has : (code : ℕ) → classOf code ≡ Plain → has plainRows code ≡ true
+unfolding classOf
+plain-has code e = go (has plainRows code) (has secureRows code) e
+  where
+    go : (a b : Bool) → cond a Plain (cond b Secure Unknown) ≡ Plain → a ≡ true
+    go true b e = refl
+    go false true e = cc
+    go false false e = cc
+
+secure-has : (code : ℕ) → classOf code ≡ Secure → (has plainRows code ≡ false) × (has secureRows code ≡ true)
+unfolding classOf
+secure-has code e = go (has plainRows code) (has secureRows code) e
+  where
+    go : (a b : Bool) → cond a Plain (cond b Secure Unknown) ≡ Secure → (a ≡ false) × (b ≡ true)
+    go true b e = (cc, cc)
+    go false true e = (refl, refl)
+    go false false e = (cc, cc)
+
+plain-row : (test : ℕ → Layout → Bool) → everyRow test plainRows ≡ true → (code : ℕ) → classOf code ≡ Plain → test code (layoutOf code) ≡ true
+unfolding layoutOf
+plain-row test all code e = rw (plain-has code e) (in-rows test plainRows code all (plain-has code e))
+
+secure-row : (test : ℕ → Layout → Bool) → everyRow test secureRows ≡ true → (code : ℕ) → classOf code ≡ Secure → test code (layoutOf code) ≡ true
+unfolding layoutOf
+secure-row test all code e = rw (secure-has code e .0) (in-rows test secureRows code all (secure-has code e .1))
+
+-- the code and each count are bytes, and the fixed bytes fit the block
+narrow : ℕ → Layout → Bool
+narrow code l = ltb code 256 and ltb (boundsOf (l .first) .greatest) 256 and ltb (boundsOf (l .second) .greatest) 256 and leb (sizeOf (l .ending)) 16
+
+plain-narrow : everyRow narrow plainRows ≡ true
+unfolding everyRow narrow plainRows _and_
+plain-narrow = refl
+
+secure-narrow : everyRow narrow secureRows ≡ true
+unfolding everyRow narrow secureRows _and_
+secure-narrow = refl
+
+pub plain-code : (code : ℕ) → classOf code ≡ Plain → code < 256
+unfolding narrow
+plain-code code e = ltb-true _ _ (and-left _ _ (plain-row narrow plain-narrow code e))
+
+narrow-of : (code : ℕ) (l : Layout) → narrow code l ≡ true → Narrow l
+unfolding narrow
+narrow-of code l h = record {
+  first = ltb-true _ _ (and-left _ _ (and-right _ _ h));
+  second = ltb-true _ _ (and-left _ _ (and-right _ _ (and-right _ _ h)));
+  ending = leb-true _ _ (and-right _ _ (and-right _ _ (and-right _ _ h)));
+}
+
+pub plain-layout : (code : ℕ) → classOf code ≡ Plain → Narrow (layoutOf code)
+plain-layout code e = narrow-of code (layoutOf code) (plain-row narrow plain-narrow code e)
+
+pub secure-layout : (code : ℕ) → classOf code ≡ Secure → Narrow (layoutOf code)
+secure-layout code e = narrow-of code (layoutOf code) (secure-row narrow secure-narrow code e)
+
+-- nothing stands behind a plain body
+closed : Behind → Bool
+closed nothing = true
+closed ignoredBytes = false
+closed aPackage = false
+
+plain-closed : everyRow (λ code l. closed (l .behind)) plainRows ≡ true
+unfolding everyRow closed plainRows _and_
+plain-closed = refl
+
+closed-left : (b : Behind) (rest : List ℕ) → closed b ≡ true → Left b rest → rest ≡ []
+unfolding closed Left
+closed-left nothing rest h left = left
+closed-left ignoredBytes rest h left = absurd (true≢false (sym h))
+closed-left aPackage rest h left = absurd (true≢false (sym h))
+
+pub plain-left : (code : ℕ) (rest : List ℕ) → classOf code ≡ Plain → Left (layoutOf code .behind) rest → rest ≡ []
+plain-left code rest e left = closed-left (layoutOf code .behind) rest (plain-row (λ code l. closed (l .behind)) plain-closed code e) left
+
+-- bytes are ignored behind 14, 16, 44, 46 and behind no other secure body
+asListed : Behind → Bool → Bool
+asListed nothing listed = cond listed false true
+asListed ignoredBytes listed = listed
+asListed aPackage listed = cond listed false true
+
+tail : ℕ → Layout → Bool
+tail code l = asListed (l .behind) (isOneOf secureReadsAndWrites code)
+
+secure-tail : everyRow tail secureRows ≡ true
+unfolding everyRow tail asListed secureRows _and_
+secure-tail = refl
+
+left-follows : (b : Behind) (code : ℕ) (rest : List ℕ) → asListed b (isOneOf secureReadsAndWrites code) ≡ true → Left b rest → MayFollow code rest
+unfolding asListed Left
+left-follows nothing code rest h left = inl left
+left-follows ignoredBytes code rest h left = inr (h, left)
+left-follows aPackage code rest h left = inl left
+
+follows-left : (b : Behind) (code : ℕ) (rest : List ℕ) → asListed b (isOneOf secureReadsAndWrites code) ≡ true → MayFollow code rest → Left b rest
+unfolding asListed Left
+follows-left nothing code rest h (inl p) = p
+follows-left nothing code rest h (inr p) = absurd (true≢false (sym h ∙ ap (λ (listed : Bool). cond listed false true) (p .0)))
+follows-left ignoredBytes code rest h (inl p) = rw p
+follows-left ignoredBytes code rest h (inr p) = p .1
+follows-left aPackage code rest h (inl p) = p
+follows-left aPackage code rest h (inr p) = absurd (true≢false (sym h ∙ ap (λ (listed : Bool). cond listed false true) (p .0)))
+
+pub secure-left : (code : ℕ) (rest : List ℕ) → classOf code ≡ Secure → Left (layoutOf code .behind) rest → MayFollow code rest
+unfolding tail
+secure-left code rest e left = left-follows (layoutOf code .behind) code rest (secure-row tail secure-tail code e) left
+
+pub secure-follows : (code : ℕ) (rest : List ℕ) → classOf code ≡ Secure → MayFollow code rest → Left (layoutOf code .behind) rest
+unfolding tail
+secure-follows code rest e f = follows-left (layoutOf code .behind) code rest (secure-row tail secure-tail code e) f

@@ -1,0 +1,117 @@
+-- The writer's test, part by part: each value has the range of its part, and a part that the layout lacks is zero or empty.
+-- It need not be believed: Demand3.antt's `UnwritableExactly` says what it tells, in terms of reading alone.
+-- Assumes nothing.
+use Prim.Native.Nat.{ℕ, _*_, _-_}
+use mathlib.Core.Bool.{Bool, true, false}
+use mathlib.Core.List.{List, [], _∷_}
+use lib.ListN.{length, drop}
+use lib.Dec.{ltb, leb, eqb}
+use Rattle.felica_format.specs.declared.classes.Class.{Class}
+use Rattle.felica_format.specs.declared.classes.Class.the-variants.{Plain, Secure, Unknown}
+use Rattle.felica_format.specs.Basic.{_and_, zeros, allBelow, isOneOf}
+use Rattle.felica_format.specs.Command.{Fixed, Command, Element, elementsOf, fixedOf}
+use Rattle.felica_format.specs.Layout.{Lead, noLead, typeByte, anyByte, Codes, noCodes, _to_, Ending, bytes, word, words, reserved}
+use Rattle.felica_format.specs.Layout.{polling, parameter, Behind, nothing, ignoredBytes, aPackage, Layout, classOf, layoutOf}
+use Rattle.felica_format.specs.Read.{timeSlots}
+use Rattle.felica_format.specs.Write.{frameOf}
+
+abbrev pub sameList : List ℕ → List ℕ → Bool
+sameList [] [] = true
+sameList [] (y ∷ ys) = false
+sameList (x ∷ xs) [] = false
+sameList (x ∷ xs) (y ∷ ys) = eqb x y and sameList xs ys
+
+abbrev pub isEmpty : {A : Type 0} → List A → Bool
+isEmpty [] = true
+isEmpty (x ∷ xs) = false
+
+-- n bytes
+abbrev pub areBytes : ℕ → List ℕ → Bool
+areBytes n bs = eqb (length bs) n and allBelow 256 bs
+
+unfoldable pub idmOk : Bool → List ℕ → Bool
+idmOk false idm = sameList idm (zeros 8)
+idmOk true idm = areBytes 8 idm
+
+unfoldable pub leadOk : Lead → ℕ → Bool
+leadOk noLead b = eqb b 0
+leadOk typeByte b = leb b 1
+leadOk anyByte b = ltb b 256
+
+unfoldable pub codesOk : Codes → List ℕ → Bool
+codesOk noCodes ns = isEmpty ns
+codesOk (least to greatest) ns = leb least (length ns) and leb (length ns) greatest and allBelow 65536 ns
+
+-- the three lists of a block list are of one length
+unfoldable pub oneLength : Command → Bool
+oneLength c = eqb (length (c .places)) (length (c .numbers)) and eqb (length (c .modes)) (length (c .numbers))
+
+abbrev pub elementOk : Element → Bool
+elementOk e = ltb (e .number) 65536 and ltb (e .place) 16 and ltb (e .mode) 8
+
+unfoldable pub eachOk : List Element → Bool
+eachOk [] = true
+eachOk (e ∷ es) = elementOk e and eachOk es
+
+unfoldable pub elementsOk : Bool → List Element → Bool
+elementsOk false es = isEmpty es
+elementsOk true es = leb 1 (length es) and leb (length es) 255 and eachOk es
+
+unfoldable pub dataOk : Bool → ℕ → List ℕ → Bool
+dataOk false m bs = isEmpty bs
+dataOk true m bs = areBytes (16 * m) bs
+
+-- The ranges of the fixed fields: number, index and option below a bound, choice one of a list, and a block whose bytes behind the first `filled` are 00.
+pub record Ranges : Type 0 where
+  pub numbers : ℕ
+  pub indices : ℕ
+  pub options : ℕ
+  pub choices : List ℕ
+  pub filled : ℕ
+
+abbrev pub ranges : ℕ → ℕ → ℕ → List ℕ → ℕ → Ranges
+ranges n i o c b = record { numbers = n; indices = i; options = o; choices = c; filled = b }
+
+-- a field that the layout lacks is 0: below 1, or one of the list of 0
+abbrev pub rangesOf : Ending → Ranges
+rangesOf (bytes n) = ranges 1 1 1 (0 ∷ []) n
+rangesOf word = ranges 65536 1 1 (0 ∷ []) 0
+rangesOf words = ranges 65536 65536 1 (0 ∷ []) 0
+rangesOf reserved = ranges 1 1 1 (0 ∷ []) 0
+rangesOf polling = ranges 65536 1 3 timeSlots 0
+rangesOf parameter = ranges 1 1 2 (0 ∷ 1 ∷ []) 0
+
+unfoldable pub fixedOk : Ranges → Fixed → Bool
+fixedOk r f =
+    ltb (f .number) (r .numbers)
+    and ltb (f .index) (r .indices)
+    and ltb (f .option) (r .options)
+    and isOneOf (r .choices) (f .choice)
+    and areBytes 16 (f .block)
+    and sameList (drop (r .filled) (f .block)) (zeros (16 - r .filled))
+
+unfoldable pub packageOk : Behind → List ℕ → Bool
+packageOk nothing bs = isEmpty bs
+packageOk ignoredBytes bs = isEmpty bs
+packageOk aPackage bs = allBelow 256 bs
+
+unfoldable pub bodyOk : Layout → Command → Bool
+bodyOk l c =
+    idmOk (l .idm) (c .idm)
+    and leadOk (l .lead) (c .selector)
+    and codesOk (l .first) (c .first)
+    and codesOk (l .second) (c .second)
+    and oneLength c
+    and elementsOk (l .elements) (elementsOf c)
+    and dataOk (l .blockData) (length (elementsOf c)) (c .blockData)
+    and fixedOk (rangesOf (l .ending)) (fixedOf c)
+    and packageOk (l .behind) (c .issuePackage)
+
+-- a plain command must also fit a frame of 255 bytes
+abbrev pub fitsClass : Class → Command → Bool
+fitsClass Plain c = leb (length (frameOf [] c)) 255
+fitsClass Secure c = true
+fitsClass Unknown c = false
+
+unfoldable pub writable : Command → Bool
+writable c = bodyOk (layoutOf (c .code)) c and fitsClass (classOf (c .code)) c

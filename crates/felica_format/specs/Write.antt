@@ -1,0 +1,90 @@
+-- Writing: "A choice of forms writes the command by its layout, each block number below 256 short or long, every other long."
+-- Assumes nothing.
+use Prim.Native.Nat.{ℕ, suc, _+_, _*_, _/_, _%_}
+use mathlib.Core.Bool.{Bool, true, false, not, cond}
+use mathlib.Core.List.{List, [], _∷_, _++_}
+use lib.ListN.{length, take}
+use lib.Dec.{ltb}
+use Rattle.felica_format.specs.Basic.{_and_, wordBytes, zeros}
+use Rattle.felica_format.specs.Command.{Fixed, Command, Element, elementsOf, fixedOf}
+use Rattle.felica_format.specs.Layout.{Lead, noLead, typeByte, anyByte, Codes, noCodes, _to_, Ending, bytes, word, words, reserved}
+use Rattle.felica_format.specs.Layout.{polling, parameter, Behind, nothing, ignoredBytes, aPackage, Layout, layoutOf}
+
+-- Of each element whether it is to be long; past the end of the list all are short. So [] is the all-short choice.
+abbrev pub Forms : Type 0
+Forms = List Bool
+
+unfoldable pub idmBytes : Bool → List ℕ → List ℕ
+idmBytes false idm = []
+idmBytes true idm = idm
+
+unfoldable pub leadBytes : Lead → ℕ → List ℕ
+leadBytes noLead b = []
+leadBytes typeByte b = b ∷ []
+leadBytes anyByte b = b ∷ []
+
+unfoldable pub wordsBytes : List ℕ → List ℕ
+wordsBytes [] = []
+wordsBytes (n ∷ ns) = wordBytes n ++ wordsBytes ns
+
+unfoldable pub codesBytes : Codes → List ℕ → List ℕ
+codesBytes noCodes ns = []
+codesBytes (least to greatest) ns = length ns ∷ wordsBytes ns
+
+-- access mode and place in one byte; bit 7 is set where the block number is short
+abbrev pub headOf : Element → ℕ
+headOf e = 16 * e .mode + e .place
+
+unfoldable pub shortBytes : Element → List ℕ
+shortBytes e = (128 + headOf e) ∷ e .number ∷ []
+
+unfoldable pub longBytes : Element → List ℕ
+longBytes e = headOf e ∷ wordBytes (e .number)
+
+unfoldable pub elementBytes : Bool → Element → List ℕ
+elementBytes long e = cond (not long and ltb (e .number) 256) (shortBytes e) (longBytes e)
+
+unfoldable pub eachBytes : Forms → List Element → List ℕ
+eachBytes forms [] = []
+eachBytes [] (e ∷ es) = elementBytes false e ++ eachBytes [] es
+eachBytes (long ∷ forms) (e ∷ es) = elementBytes long e ++ eachBytes forms es
+
+unfoldable pub elementsBytes : Bool → Forms → List Element → List ℕ
+elementsBytes false forms es = []
+elementsBytes true forms es = length es ∷ eachBytes forms es
+
+unfoldable pub dataBytes : Bool → List ℕ → List ℕ
+dataBytes false bs = []
+dataBytes true bs = bs
+
+unfoldable pub endingBytes : Ending → Fixed → List ℕ
+endingBytes (bytes n) f = take n (f .block)
+endingBytes word f = wordBytes (f .number)
+endingBytes words f = wordBytes (f .number) ++ wordBytes (f .index)
+endingBytes reserved f = zeros 2
+endingBytes polling f = f .number / 256 ∷ f .number % 256 ∷ f .option ∷ f .choice ∷ []
+endingBytes parameter f = zeros 4 ++ (f .option ∷ f .choice ∷ zeros 2)
+
+unfoldable pub packageBytes : Behind → List ℕ → List ℕ
+packageBytes nothing bs = []
+packageBytes ignoredBytes bs = []
+packageBytes aPackage bs = bs
+
+unfoldable pub bodyBytes : Layout → Forms → Command → List ℕ
+bodyBytes l forms c =
+    idmBytes (l .idm) (c .idm)
+    ++ (leadBytes (l .lead) (c .selector)
+    ++ (codesBytes (l .first) (c .first)
+    ++ (codesBytes (l .second) (c .second)
+    ++ (elementsBytes (l .elements) forms (elementsOf c)
+    ++ (dataBytes (l .blockData) (c .blockData)
+    ++ (endingBytes (l .ending) (fixedOf c)
+    ++ packageBytes (l .behind) (c .issuePackage)))))))
+
+-- "A plain choice begins with the frame's size as length byte and the code byte"
+unfoldable pub frameOf : Forms → Command → List ℕ
+frameOf forms c = suc (suc (length (bodyBytes (layoutOf (c .code)) forms c))) ∷ c .code ∷ bodyBytes (layoutOf (c .code)) forms c
+
+-- "a secure one has neither"
+unfoldable pub secureOf : Forms → Command → List ℕ
+secureOf forms c = bodyBytes (layoutOf (c .code)) forms c
