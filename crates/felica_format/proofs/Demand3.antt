@@ -14,10 +14,10 @@ use borrow.Author.Tests.{eqb-true, eq-eqb, leb-true, le-leb, le-ltb}
 use Rattle.felica_format.specs.declared.classes.Class.{Class}
 use Rattle.felica_format.specs.declared.classes.Class.the-variants.{Plain, Secure, Unknown}
 use Rattle.felica_format.specs.Basic.{_and_, Bytes, Step, taken, refuse}
-use Rattle.felica_format.specs.Command.{Command, elementsOf}
+use Rattle.felica_format.specs.Command.{Command}
 use Rattle.felica_format.specs.Layout.{Layout, classOf, layoutOf}
 use Rattle.felica_format.specs.Read.{gives, refused, answerOf, readPlainAs, readSecureAs, readBody, readPayload, readFrame, readSecure}
-use Rattle.felica_format.specs.Write.{Forms, elementBytes, eachBytes, bodyBytes, secureOf, frameOf}
+use Rattle.felica_format.specs.Write.{Forms, elementBytes, bodyBytes, secureOf, frameOf}
 use Rattle.felica_format.specs.Writable.{bodyOk, fitsClass, writable}
 use Rattle.felica_format.specs.Demand3.{FrameGives, PayloadGives, HasFrame, HasPayload, MayFollow, Around, FramesAreChoices, PayloadsAreChoices}
 use Rattle.felica_format.specs.Demand3.{ShortFrameAccepted, ShortPayloadAccepted, OtherFramesLonger, OtherPayloadsLonger, UnwritableExactly}

@@ -172,13 +172,16 @@ values-only polling s f rest short enough small r =
     let high : wordOf (getD s 1 0) (getD s 0 0) / 256 ≡ getD s 0 0 = omega arith in
     values-as polling s (refuseIf-taken _ _ _ r₁) (in-blank (omega arith) (omega arith) (omega arith) c, rw (low, high) (firsts-drop 4 s enough))
 values-only parameter s f rest short enough small r =
-    let z : zeroAt 4 s 0 ≡ true = not-false _ (refuseIf-passed _ _ _ r) in
     let r₁ = refuseIf-taken _ _ _ r in
-    let y : zeroAt 2 s 6 ≡ true = not-false _ (refuseIf-passed _ _ _ r₁) in
     let r₂ = refuseIf-taken _ _ _ r₁ in
-    let o : getD s 4 0 ≤ 1 = ltb-false _ _ (refuseIf-passed _ _ _ r₂) in
     let r₃ = refuseIf-taken _ _ _ r₂ in
-    let c : getD s 5 0 ≤ 1 = ltb-false _ _ (refuseIf-passed _ _ _ r₃) in
+    let p₀ = refuseIf-passed _ _ _ r in
+    let p₁ = refuseIf-passed _ _ _ r₁ in
+    let p₂ = refuseIf-passed _ _ _ r₂ in
+    let p₃ = refuseIf-passed _ _ _ r₃ in
+    let z : zeroAt 4 s 0 ≡ true = search not-false in
+    let y : zeroAt 2 s 6 ≡ true = search not-false in
+    let c : getD s 5 0 ≤ 1 = omega tests in
     let d0 : getD s 0 0 ≡ 0 = eqb-true _ _ (and-left _ _ z) in
     let d1 : getD s 1 0 ≡ 0 = eqb-true _ _ (and-left _ _ (and-right _ _ z)) in
     let d2 : getD s 2 0 ≡ 0 = eqb-true _ _ (and-left _ _ (and-right _ _ (and-right _ _ z))) in
@@ -186,7 +189,7 @@ values-only parameter s f rest short enough small r =
     let d6 : getD s 6 0 ≡ 0 = eqb-true _ _ (and-left _ _ y) in
     let d7 : getD s 7 0 ≡ 0 = eqb-true _ _ (and-left _ _ (and-right _ _ y)) in
     values-as parameter s (refuseIf-taken _ _ _ r₃)
-    (in-blank (omega arith) (omega arith) (omega arith) (bits-one-of _ c), rw (d0, d1, d2, d3, d6, d7) at (firsts-drop 8 s enough))
+    (in-blank (omega arith) (omega arith) (omega tests) (bits-one-of _ c), rw (d0, d1, d2, d3, d6, d7) at (firsts-drop 8 s enough))
 
 -- What may be left behind a body: bytes where they are ignored, else nothing.
 unfoldable pub Left : Behind → List ℕ → Type 0

@@ -2,19 +2,18 @@
 -- Assumes nothing.
 use Prim.Native.Nat.{ℕ, _<_}
 use mathlib.Core.Path.{_≡_, refl, sym, ap, _∙_, subst}
-use mathlib.Core.Logic.{inl, inr}
+use mathlib.Core.Logic.{_⊎_, inl, inr}
 use mathlib.Core.Bool.{Bool, true, false, cond, _||_, true≢false}
 use mathlib.Core.List.{List, [], _∷_}
 use lib.Dec.{ltb, leb, eqb}
 use borrow.Author.Tests.{ltb-true, leb-true, eqb-true}
-use Rattle.felica_format.specs.declared.classes.Class.{Class}
 use Rattle.felica_format.specs.declared.classes.Class.the-variants.{Plain, Secure, Unknown}
 use Rattle.felica_format.specs.Basic.{_and_, isOneOf}
 use Rattle.felica_format.specs.Layout.{Codes, noCodes, _to_, Behind, nothing, ignoredBytes, aPackage, Layout, Row, plainRows, secureRows}
 use Rattle.felica_format.specs.Layout.{has, classOf, layoutIn, layoutOf, boundsOf}
 use Rattle.felica_format.specs.Read.{sizeOf}
 use Rattle.felica_format.specs.Demand3.{secureReadsAndWrites, MayFollow}
-use Rattle.felica_format.proofs.Tests.{and-left, and-right, and-both}
+use Rattle.felica_format.proofs.Tests.{and-left, and-right}
 use Rattle.felica_format.proofs.Ending.{Left}
 use Rattle.felica_format.proofs.Body.{Narrow}
 
@@ -88,6 +87,28 @@ plain-layout code e = narrow-of code (layoutOf code) (plain-row narrow plain-nar
 
 pub secure-layout : (code : ℕ) → classOf code ≡ Secure → Narrow (layoutOf code)
 secure-layout code e = narrow-of code (layoutOf code) (secure-row narrow secure-narrow code e)
+
+-- "10's two share theirs": where a plain layout has a second code list, its bounds are the first one's
+shares : Codes → Codes → Bool
+shares noCodes first = true
+shares (least to greatest) noCodes = false
+shares (least to greatest) (least′ to greatest′) = eqb least least′ and eqb greatest greatest′
+
+shares-bounds : (second first : Codes) → shares second first ≡ true → (second ≡ noCodes) ⊎ (second ≡ first)
+unfolding shares
+shares-bounds noCodes first h = inl refl
+shares-bounds (least to greatest) noCodes h = absurd (true≢false (sym h))
+shares-bounds (least to greatest) (least′ to greatest′) h =
+    let p : least ≡ least′ = eqb-true _ _ (and-left _ _ h) in
+    let q : greatest ≡ greatest′ = eqb-true _ _ (and-right _ _ h) in
+    inr cc
+
+plain-shares : everyRow (λ code l. shares (l .second) (l .first)) plainRows ≡ true
+unfolding everyRow shares plainRows _and_
+plain-shares = refl
+
+pub second-bounds : (code : ℕ) → classOf code ≡ Plain → (layoutOf code .second ≡ noCodes) ⊎ (layoutOf code .second ≡ layoutOf code .first)
+second-bounds code e = shares-bounds (layoutOf code .second) (layoutOf code .first) (plain-row (λ code l. shares (l .second) (l .first)) plain-shares code e)
 
 -- nothing stands behind a plain body
 closed : Behind → Bool

@@ -1,27 +1,30 @@
-// The constants of constants.rs that the commands use, under its names, and the two tables of counts and time slots.
+// The constants of constants.rs that the commands use, under its names, and the functions that read its tables.
+// Limits of counts are bytes, as the counts are.
 ghost use mathlib.Core.Path.{_≡_};
+ghost use lib.Dec.{leb};
 ghost use Rattle.felica_format.specs.Basic.{isOneOf};
 ghost use Rattle.felica_format.specs.Layout.{boundsAt};
 ghost use Rattle.felica_format.specs.Read.{timeSlots};
 
-// The bytes of an IDm.
 pub const IDM_LEN: usize = 8;
 
-// The bytes of a block.
+// Bytes of a block.
 pub const BLOCK_SIZE: usize = 16;
 
-// The bytes of a frame at most, its length byte included.
+// Bytes of a frame, its length byte included.
 pub const MAX_PACKET_LEN: usize = 0xFF;
 
 pub const MAX_SERVICE_CODES: u8 = 0x20;
 
-// The same for reading and writing without encryption.
+// The same where blocks are read or written without encryption.
 pub const MAX_RW_SERVICE_CODES: u8 = 0x10;
 
 pub const MAX_NODE_CODES: u8 = 0x20;
 
+// The same where node properties are asked for.
 pub const MAX_NODE_PROPERTY_CODES: u8 = 0x10;
 
+// The Rust writes this least count where it is used.
 pub const MIN_BLOCK_COUNT: u8 = 1;
 
 pub const MAX_BLOCK_COUNT: u8 = 0xFF;
@@ -76,7 +79,7 @@ pub const AUTHENTICATION2_V2_COMMAND_CODE: u8 = 0x42;
 
 pub const GET_CONTAINER_ID_COMMAND_CODE: u8 = 0x70;
 
-// Secure commands.
+// The secure commands.
 pub const READ_COMMAND_CODE: u8 = 0x14;
 
 pub const WRITE_COMMAND_CODE: u8 = 0x16;
@@ -93,7 +96,7 @@ pub const REGISTER_SERVICE_COMMAND_CODE: u8 = 0x84;
 
 pub const CHANGE_SYSTEM_BLOCK_COMMAND_CODE: u8 = 0x8E;
 
-// The least and the greatest count of a code list.
+// The least and the greatest count of a list of codes.
 pub struct Bounds {
     pub least: u8,
     pub greatest: u8,
@@ -129,7 +132,7 @@ const NODE_PROPERTY_CODES: Bounds = Bounds {
     greatest: MAX_NODE_PROPERTY_CODES,
 };
 
-// A row for each plain code, rising.
+// A row for each plain code, in rising order; Authentication1's two lists share theirs.
 const BOUNDS: [Bounds; 25] = [
     NO_CODES, // 00
     SERVICE_CODES, // 02
@@ -158,16 +161,29 @@ const BOUNDS: [Bounds; 25] = [
     NO_CODES, // 70
 ];
 
-// The bounds in a row of the table; none from 25 up.
+// A row of the table, and no codes from 25 up. A caller names its row by a literal, so that the table folds away.
 pub fn bounds_at(row: usize) -> Bounds
     ensures { λ r. ⌜ r ≡ boundsAt row ⌝ }
 {
     if row < 25 { BOUNDS[row] } else { NO_CODES }
 }
 
+const POLLING_REQUEST_CODES: [u8; 3] = [0x00, 0x01, 0x02];
+
 const POLLING_TIME_SLOTS: [u8; 5] = [0x00, 0x01, 0x03, 0x07, 0x0F];
 
-// The table has the value.
+pub fn is_polling_request_code(value: u8) -> bool
+    ensures { λ r. ⌜ r ≡ leb value 2 ⌝ }
+{
+    contains(&POLLING_REQUEST_CODES, value)
+}
+
+pub fn is_polling_time_slot(value: u8) -> bool
+    ensures { λ r. ⌜ r ≡ isOneOf timeSlots value ⌝ }
+{
+    contains(&POLLING_TIME_SLOTS, value)
+}
+
 fn contains(table: &[u8], value: u8) -> bool
     ensures { λ r. ⌜ r ≡ isOneOf (now (table .entry)) value ⌝ }
 {
@@ -179,10 +195,4 @@ fn contains(table: &[u8], value: u8) -> bool
         i += 1;
     }
     false
-}
-
-pub fn is_time_slot(value: u8) -> bool
-    ensures { λ r. ⌜ r ≡ isOneOf timeSlots value ⌝ }
-{
-    contains(&POLLING_TIME_SLOTS, value)
 }
