@@ -10,5 +10,6 @@ pub mod Ending
 pub mod Body
 pub mod Rows
 pub mod Demand3
+pub mod Grounds
 pub mod Members
 pub mod ClassTable

@@ -1,5 +1,5 @@
--- The FeliCa Standard command format. In the order of reading: what a command is, the layout of each code, reading, writing, and what demand 3 says.
--- Writable and Examples are no definitions to rely on: demand 3 tells what the one means, and the other is proved of the layouts.
+-- The FeliCa Standard command format, in the order of reading: what a command is, the layout of each code, reading, writing, and the statements of
+-- demand 3. Writable and Examples are not to be relied on: demand 3 says what the one tells, and the other is proved of the layouts.
 pub mod Basic
 pub mod Command
 pub mod Layout
@@ -7,4 +7,5 @@ pub mod Read
 pub mod Write
 pub mod Writable
 pub mod Demand3
+pub mod Grounds
 pub mod Examples
