@@ -8,10 +8,10 @@ use mathlib.Core.Bool.{Bool, true, false, not, cond}
 use mathlib.Core.List.{List, [], _∷_, _++_, append-assoc}
 use lib.ListN.{length, length-append}
 use lib.Dec.{ltb, eqb}
-use borrow.Author.Tests.{ltb-true, ltb-false, eqb-true, eq-eqb}
+use borrow.Author.Tests.{ltb-true, ltb-false, eqb-true, lt-ltb, eq-eqb}
 use Rattle.felica_format.specs.Basic.{_and_, Bytes, taken, bind}
 use Rattle.felica_format.specs.Command.{Element}
-use Rattle.felica_format.specs.Read.{readShort, readLong, readElement, readEach, readElements}
+use Rattle.felica_format.specs.Read.{elementOf, readShort, readLong, readElement, readEach, readElements}
 use Rattle.felica_format.specs.Write.{Forms, headOf, shortBytes, longBytes, elementBytes, eachBytes, elementsBytes}
 use Rattle.felica_format.specs.Writable.{isEmpty, elementOk, eachOk, elementsOk}
 use Rattle.felica_format.proofs.Tests.{tests, and-left, and-right, and-both, isEmpty-true}
@@ -65,6 +65,11 @@ module _ (e : Element) (ok : elementOk e ≡ true) where
       let m = mode-small in
       and-both (omega tests) (and-both (omega tests) (and-both (omega tests) refl))
 
+-- a number below 256 that is not to be long is short
+short-form : (e : Element) → e .number < 256 → elementBytes false e ≡ shortBytes e
+unfolding elementBytes _and_
+short-form e h = ap (λ (b : Bool). cond b (shortBytes e) (longBytes e)) (lt-ltb _ _ h)
+
 -- what holds of both forms of an element
 by-form : (P : List ℕ → Type 0) (long : Bool) (e : Element) → (e .number < 256 → P (shortBytes e)) → P (longBytes e) → P (elementBytes long e)
 unfolding elementBytes _and_
@@ -101,15 +106,16 @@ long-only head (a ∷ b ∷ s) e rest h small r =
     (true, rw (← taken-value r) (rw (n, p, m)), rw (← taken-value r, ← taken-rest r, first, low, high))
 
 short-only : (head : ℕ) (s : List ℕ) (e : Element) (rest : List ℕ) → 128 ≤ head → head < 256 → Bytes s → readShort head s ≡ taken e rest → Form (head ∷ s) e rest
-unfolding Form readShort elementBytes shortBytes _and_
+unfolding Form readShort shortBytes
 short-only head [] e rest l h small r = absurd (none-taken r)
 short-only head (a ∷ s) e rest l h small r =
-    let ha : ltb a 256 ≡ true = and-left _ _ small in
+    let ha : a < 256 = head-below 256 a s small in
     let n : ltb a 65536 ≡ true = omega tests in
     let p : ltb (head % 16) 16 ≡ true = omega tests in
     let m : ltb (head / 16 % 8) 8 ≡ true = omega tests in
     let first : 128 + (16 * (head / 16 % 8) + head % 16) ≡ head = omega arith in
-    (false, rw (← taken-value r) (rw (n, p, m)), rw (← taken-value r, ← taken-rest r, ha, first))
+    let is : head ∷ a ∷ s ≡ elementBytes false (elementOf head a) ++ s = rw (short-form (elementOf head a) ha, first) in
+    (false, rw (← taken-value r) (and-both n (and-both p m)), rw (← taken-value r, ← taken-rest r) is)
 
 element-only : (s : List ℕ) (e : Element) (rest : List ℕ) → Bytes s → readElement s ≡ taken e rest → Form s e rest
 unfolding readElement
@@ -200,7 +206,7 @@ append-longer a a′ b b′ (inr p) (inr q) = inr (simp length-append (omega ari
 element-longer : (long : Bool) (e : Element) → SameOrLonger (elementBytes long e) (elementBytes false e)
 unfolding elementBytes _and_ shortBytes longBytes
 element-longer false e = inl refl
-element-longer true e = go (ltb (e .number) 256)
+element-longer true e = go _
   where
     go : (b : Bool) → SameOrLonger (longBytes e) (cond b (shortBytes e) (longBytes e))
     go true = inr (omega arith)

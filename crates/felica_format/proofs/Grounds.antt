@@ -50,7 +50,7 @@ lead-grounded : (lead : Lead) (s : List ℕ) → Grounded (readLead lead s)
 unfolding readLead
 lead-grounded noLead s = took
 lead-grounded typeByte [] = refuses tt
-lead-grounded typeByte (b ∷ s) = if-grounded _ 19 _ tt took
+lead-grounded typeByte (b ∷ s) = if-grounded _ _ _ tt took
 lead-grounded anyByte [] = refuses tt
 lead-grounded anyByte (b ∷ s) = took
 
@@ -63,7 +63,7 @@ codes-grounded : (missing outside : ℕ) (codes : Codes) (s : List ℕ) → Grou
 unfolding readCodes readWords
 codes-grounded missing outside noCodes s m o = took
 codes-grounded missing outside (least to greatest) s m o =
-    bind-grounded _ readWords (count-grounded missing outside least greatest s m o) (λ n rest. if-grounded _ 13 _ tt took)
+    bind-grounded _ readWords (count-grounded missing outside least greatest s m o) (λ n rest. if-grounded _ _ _ tt took)
 
 element-grounded : (s : List ℕ) → Grounded (readElement s)
 unfolding readElement readShort readLong
@@ -97,13 +97,13 @@ unfolding readValues
 values-grounded (bytes n) s = took
 values-grounded word s = took
 values-grounded words s = took
-values-grounded reserved s = if-grounded _ 18 _ tt took
-values-grounded polling s = if-grounded _ 19 _ tt (if-grounded _ 20 _ tt took)
-values-grounded parameter s = if-grounded _ 18 _ tt (if-grounded _ 18 _ tt (if-grounded _ 19 _ tt (if-grounded _ 20 _ tt took)))
+values-grounded reserved s = if-grounded _ _ _ tt took
+values-grounded polling s = if-grounded _ _ _ tt (if-grounded _ _ _ tt took)
+values-grounded parameter s = if-grounded _ _ _ tt (if-grounded _ _ _ tt (if-grounded _ _ _ tt (if-grounded _ _ _ tt took)))
 
 ending-grounded : (e : Ending) (b : Behind) (s : List ℕ) → Grounded (readEnding e b s)
 unfolding readEnding
-ending-grounded e b s = if-grounded _ 7 _ tt (if-grounded _ 8 _ tt (values-grounded e s))
+ending-grounded e b s = if-grounded _ _ _ tt (if-grounded _ _ _ tt (values-grounded e s))
 
 package-grounded : (b : Behind) (s : List ℕ) → Grounded (readPackage b s)
 unfolding readPackage
