@@ -10,21 +10,21 @@ use mathlib.Core.List.{List, [], _∷_, _++_, append-nil, append-assoc}
 use mathlib.Core.Option.{Option, none}
 use lib.ListN.{length, length-append}
 use lib.Dec.{eqb}
-use borrow.Author.Tests.{eqb-true, eq-eqb, leb-true, le-leb, le-ltb}
+use borrow.Author.Tests.{eqb-true, eq-eqb, leb-true, le-leb}
 use Rattle.felica_format.specs.declared.classes.Class.{Class}
 use Rattle.felica_format.specs.declared.classes.Class.the-variants.{Plain, Secure, Unknown}
-use Rattle.felica_format.specs.Basic.{_and_, Bytes, Step, taken, refuse}
+use Rattle.felica_format.specs.Basic.{Bytes, Step, taken, refuse}
 use Rattle.felica_format.specs.Command.{Command}
 use Rattle.felica_format.specs.Layout.{Layout, classOf, layoutOf}
 use Rattle.felica_format.specs.Read.{gives, refused, answerOf, readPlainAs, readSecureAs, readBody, readPayload, readFrame, readSecure}
-use Rattle.felica_format.specs.Write.{Forms, elementBytes, bodyBytes, secureOf, frameOf}
+use Rattle.felica_format.specs.Write.{Forms, longBytes, bodyBytes, secureOf, frameOf}
 use Rattle.felica_format.specs.Writable.{bodyOk, fitsClass, writable}
 use Rattle.felica_format.specs.Demand3.{FrameGives, PayloadGives, HasFrame, HasPayload, MayFollow, Around, FramesAreChoices, PayloadsAreChoices}
 use Rattle.felica_format.specs.Demand3.{ShortFrameAccepted, ShortPayloadAccepted, OtherFramesLonger, OtherPayloadsLonger, UnwritableExactly}
 use Rattle.felica_format.specs.Demand3.{FrameReadBack, PayloadReadBack, TwoFrames, TwoPayloads, OneFormFrom256}
 use Rattle.felica_format.proofs.Tests.{tests, and-left, and-right, and-both}
 use Rattle.felica_format.proofs.Bytes.{allBelow-++, head-below}
-use Rattle.felica_format.proofs.Elements.{SameOrLonger}
+use Rattle.felica_format.proofs.Elements.{by-form, SameOrLonger}
 use Rattle.felica_format.proofs.Ending.{Left, left-none, left-small}
 use Rattle.felica_format.proofs.Body.{Narrow, Body, body-back, body-only, body-small, body-longer, beforeElements, afterElements, body-around}
 use Rattle.felica_format.proofs.Rows.{plain-code, plain-layout, secure-layout, plain-left, secure-left, secure-follows}
@@ -306,6 +306,4 @@ two-payloads c s t gs gt =
     )
 
 pub one-form-from-256 : OneFormFrom256
-unfolding elementBytes _and_
-one-form-from-256 true e h = refl
-one-form-from-256 false e h = rw (le-ltb (e .number) 256 h)
+one-form-from-256 long e h = by-form (λ (w : List ℕ). w ≡ longBytes e) long e (λ below. absurd (omega arith)) refl

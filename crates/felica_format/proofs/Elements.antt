@@ -71,7 +71,7 @@ unfolding elementBytes _and_
 short-form e h = ap (λ (b : Bool). cond b (shortBytes e) (longBytes e)) (lt-ltb _ _ h)
 
 -- what holds of both forms of an element
-by-form : (P : List ℕ → Type 0) (long : Bool) (e : Element) → (e .number < 256 → P (shortBytes e)) → P (longBytes e) → P (elementBytes long e)
+pub by-form : (P : List ℕ → Type 0) (long : Bool) (e : Element) → (e .number < 256 → P (shortBytes e)) → P (longBytes e) → P (elementBytes long e)
 unfolding elementBytes _and_
 by-form P long e short other = go (not long) _ (λ h. omega tests)
   where
@@ -206,11 +206,7 @@ append-longer a a′ b b′ (inr p) (inr q) = inr (simp length-append (omega ari
 element-longer : (long : Bool) (e : Element) → SameOrLonger (elementBytes long e) (elementBytes false e)
 unfolding elementBytes _and_ shortBytes longBytes
 element-longer false e = inl refl
-element-longer true e = go _
-  where
-    go : (b : Bool) → SameOrLonger (longBytes e) (cond b (shortBytes e) (longBytes e))
-    go true = inr (omega arith)
-    go false = inl refl
+element-longer true e = by-form (SameOrLonger (longBytes e)) false e (λ h. inr (omega arith)) (inl refl)
 
 each-longer : (forms : Forms) (es : List Element) → SameOrLonger (eachBytes forms es) (eachBytes [] es)
 unfolding eachBytes
