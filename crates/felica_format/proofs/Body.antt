@@ -9,21 +9,21 @@ use mathlib.Core.List.{List, [], _++_, append-assoc, map}
 use lib.ListN.{length, length-append, length-map}
 use borrow.Author.Tests.{eq-eqb}
 use Rattle.felica_format.specs.Basic.{Bytes, Step, taken, bind}
-use Rattle.felica_format.specs.Command.{Command, Element, elementsOf, fixedOf, commandOf}
+use Rattle.felica_format.specs.Command.{Command, Element, elementsOf, endFieldsOf, commandOf}
 use Rattle.felica_format.specs.Layout.{Layout, boundsOf}
 use Rattle.felica_format.specs.Read.{sizeOf, readEnding, readPackage, ifCodes, readBody}
-use Rattle.felica_format.specs.Write.{Forms, idmBytes, leadBytes, codesBytes, eachBytes, elementsBytes, dataBytes, endingBytes, packageBytes, bodyBytes}
-use Rattle.felica_format.specs.Writable.{idmOk, leadOk, codesOk, oneLength, elementsOk, dataOk, rangesOf, fixedOk, packageOk, bodyOk}
+use Rattle.felica_format.specs.Write.{Forms, idmBytes, selectorBytes, codesBytes, eachBytes, elementsBytes, dataBytes, endingBytes, packageBytes, bodyBytes}
+use Rattle.felica_format.specs.Writable.{idmOk, selectorOk, codesOk, oneLength, elementsOk, dataOk, rangesOf, endFieldsOk, packageOk, bodyOk}
 use Rattle.felica_format.proofs.Tests.{and-left, and-right, and-both}
 use Rattle.felica_format.proofs.Bytes.{allBelow-++, bytes-right}
 use Rattle.felica_format.proofs.Steps.{taken-value, taken-rest, bind-taken}
 use Rattle.felica_format.proofs.Laws.{Laws}
-use Rattle.felica_format.proofs.Parts.{idm-laws, lead-laws, codes-laws, data-laws}
+use Rattle.felica_format.proofs.Parts.{idm-laws, selector-laws, codes-laws, data-laws}
 use Rattle.felica_format.proofs.Elements.{elements-laws, countBytes, elements-apart, SameOrLonger, elements-longer}
 use Rattle.felica_format.proofs.Zip.{zip-lists, zipped}
 use Rattle.felica_format.proofs.Ending.{Left, ending-back, package-back, ending-small, package-small, ending-only}
 
--- each count fits a byte, and the fixed bytes fit the block
+-- each count fits a byte, and the fixed bytes fit the challenge
 pub record Narrow (l : Layout) : Type 0 where
   pub first : boundsOf (l .first) .greatest < 256
   pub second : boundsOf (l .second) .greatest < 256
@@ -32,13 +32,13 @@ pub record Narrow (l : Layout) : Type 0 where
 -- the ranges of a body, part by part
 record Fits (l : Layout) (c : Command) : Type 0 where
   idm : idmOk (l .idm) (c .idm) ≡ true
-  lead : leadOk (l .lead) (c .selector) ≡ true
+  selector : selectorOk (l .selector) (c .selector) ≡ true
   first : codesOk (l .first) (c .first) ≡ true
   second : codesOk (l .second) (c .second) ≡ true
   lists : oneLength c ≡ true
   elements : elementsOk (l .elements) (elementsOf c) ≡ true
   blockData : dataOk (l .blockData) (length (elementsOf c)) (c .blockData) ≡ true
-  values : fixedOk (rangesOf (l .ending)) (fixedOf c) ≡ true
+  values : endFieldsOk (rangesOf (l .ending)) (endFieldsOf c) ≡ true
   pack : packageOk (l .behind) (c .issuePackage) ≡ true
 
 fits-of : (l : Layout) (c : Command) → bodyOk l c ≡ true → Fits l c
@@ -53,7 +53,7 @@ fits-of l c ok =
     let ok₇ = and-right _ _ ok₆ in
     record {
       idm = and-left _ _ ok;
-      lead = and-left _ _ ok₁;
+      selector = and-left _ _ ok₁;
       first = and-left _ _ ok₂;
       second = and-left _ _ ok₃;
       lists = and-left _ _ ok₄;
@@ -66,7 +66,7 @@ fits-of l c ok =
 of-fits : (l : Layout) (c : Command) → Fits l c → bodyOk l c ≡ true
 unfolding bodyOk
 of-fits l c h =
-    and-both (h .idm) (and-both (h .lead) (and-both (h .first) (and-both (h .second) (and-both (h .lists) (and-both (h .elements)
+    and-both (h .idm) (and-both (h .selector) (and-both (h .first) (and-both (h .second) (and-both (h .lists) (and-both (h .elements)
     (and-both (h .blockData) (and-both (h .values) (h .pack))))))))
 
 -- A walk that took something: what its first step took, and how the walk went on. What follows from that is handed over as a function, so that it
@@ -93,7 +93,7 @@ pub record Body (l : Layout) (code : ℕ) (s : List ℕ) (c : Command) (rest : L
 
 -- the command of a command's own parts
 command-of : (c : Command) → oneLength c ≡ true
-    → commandOf (c .code) (c .idm) (c .selector) (c .first) (c .second) (elementsOf c) (c .blockData) (fixedOf c) (c .issuePackage) ≡ c
+    → commandOf (c .code) (c .idm) (c .selector) (c .first) (c .second) (elementsOf c) (c .blockData) (endFieldsOf c) (c .issuePackage) ≡ c
 command-of c ok =
     let z = zipped c ok in
     λ i. record {
@@ -110,7 +110,7 @@ command-of c ok =
       index = c .index;
       option = c .option;
       choice = c .choice;
-      block = c .block;
+      challenge = c .challenge;
       issuePackage = c .issuePackage;
     }
 
@@ -128,21 +128,21 @@ module _ (l : Layout) (n : Narrow l) where
   body-back forms c rest ok left =
       let h = fits-of l c ok in
       let t₈ : List ℕ = packageBytes (l .behind) (c .issuePackage) ++ rest in
-      let t₇ : List ℕ = endingBytes (l .ending) (fixedOf c) ++ t₈ in
+      let t₇ : List ℕ = endingBytes (l .ending) (endFieldsOf c) ++ t₈ in
       let t₆ : List ℕ = dataBytes (l .blockData) (c .blockData) ++ t₇ in
       let t₅ : List ℕ = elementsBytes (l .elements) forms (elementsOf c) ++ t₆ in
       let t₄ : List ℕ = codesBytes (l .second) (c .second) ++ t₅ in
       let t₃ : List ℕ = codesBytes (l .first) (c .first) ++ t₄ in
-      let t₂ : List ℕ = leadBytes (l .lead) (c .selector) ++ t₃ in
+      let t₂ : List ℕ = selectorBytes (l .selector) (c .selector) ++ t₃ in
       simp append-assoc
       (rw (
         idm-laws (l .idm) .back tt (c .idm) t₂ (h .idm),
-        lead-laws (l .lead) .back tt (c .selector) t₃ (h .lead),
+        selector-laws (l .selector) .back tt (c .selector) t₃ (h .selector),
         codes-laws 9 10 (l .first) (n .first) .back tt (c .first) t₄ (h .first),
         codes-laws 11 12 (l .second) (n .second) .back tt (c .second) t₅ (h .second),
         elements-laws (ifCodes (l .first) 11 9) (ifCodes (l .first) 12 10) (l .elements) .back forms (elementsOf c) t₆ (h .elements),
         data-laws (l .blockData) (length (elementsOf c)) .back tt (c .blockData) t₇ (h .blockData),
-        ending-back (l .ending) (l .behind) (fixedOf c) (c .issuePackage) rest (n .ending) (h .values) (h .pack) left,
+        ending-back (l .ending) (l .behind) (endFieldsOf c) (c .issuePackage) rest (n .ending) (h .values) (h .pack) left,
         package-back (l .behind) (c .issuePackage) rest (h .pack) left,
       )
       (ap (λ (d : Command). taken d rest) (command-of c (h .lists))))
@@ -151,7 +151,7 @@ module _ (l : Layout) (n : Narrow l) where
   unfolding readBody bodyBytes
   body-only code s c rest small e =
       step (idm-laws (l .idm)) s _ small e λ idm s₁ _ ok₁ is₁ small₁ e₁.
-      step (lead-laws (l .lead)) s₁ _ small₁ e₁ λ selector s₂ _ ok₂ is₂ small₂ e₂.
+      step (selector-laws (l .selector)) s₁ _ small₁ e₁ λ selector s₂ _ ok₂ is₂ small₂ e₂.
       step (codes-laws 9 10 (l .first) (n .first)) s₂ _ small₂ e₂ λ first s₃ _ ok₃ is₃ small₃ e₃.
       step (codes-laws 11 12 (l .second) (n .second)) s₃ _ small₃ e₃ λ second s₄ _ ok₄ is₄ small₄ e₄.
       step (elements-laws (ifCodes (l .first) 11 9) (ifCodes (l .first) 12 10) (l .elements)) s₄ _ small₄ e₄ λ elements s₅ forms ok₅ is₅ small₅ e₅.
@@ -163,7 +163,7 @@ module _ (l : Layout) (n : Narrow l) where
       let z : elementsOf d ≡ elements = zip-lists elements in
       let fits : Fits l d = record {
         idm = ok₁;
-        lead = ok₂;
+        selector = ok₂;
         first = ok₃;
         second = ok₄;
         lists = one-length elements d refl refl refl;
@@ -182,24 +182,24 @@ module _ (l : Layout) (n : Narrow l) where
       let h = fits-of l c ok in
       simp allBelow-++
       (and-both (idm-laws (l .idm) .small tt (c .idm) (h .idm))
-      (and-both (lead-laws (l .lead) .small tt (c .selector) (h .lead))
+      (and-both (selector-laws (l .selector) .small tt (c .selector) (h .selector))
       (and-both (codes-laws 9 10 (l .first) (n .first) .small tt (c .first) (h .first))
       (and-both (codes-laws 11 12 (l .second) (n .second) .small tt (c .second) (h .second))
       (and-both (elements-laws 9 10 (l .elements) .small forms (elementsOf c) (h .elements))
       (and-both (data-laws (l .blockData) (length (elementsOf c)) .small tt (c .blockData) (h .blockData))
-      (and-both (ending-small (l .ending) (fixedOf c) (h .values)) (package-small (l .behind) (c .issuePackage) (h .pack)))))))))
+      (and-both (ending-small (l .ending) (endFieldsOf c) (h .values)) (package-small (l .behind) (c .issuePackage) (h .pack)))))))))
 
 -- a body is the same before and after its elements, whatever their forms
 unfoldable pub beforeElements : Layout → Command → List ℕ
 beforeElements l c =
     idmBytes (l .idm) (c .idm)
-    ++ (leadBytes (l .lead) (c .selector)
+    ++ (selectorBytes (l .selector) (c .selector)
     ++ (codesBytes (l .first) (c .first)
     ++ (codesBytes (l .second) (c .second)
     ++ countBytes (l .elements) (elementsOf c))))
 
 unfoldable pub afterElements : Layout → Command → List ℕ
-afterElements l c = dataBytes (l .blockData) (c .blockData) ++ (endingBytes (l .ending) (fixedOf c) ++ packageBytes (l .behind) (c .issuePackage))
+afterElements l c = dataBytes (l .blockData) (c .blockData) ++ (endingBytes (l .ending) (endFieldsOf c) ++ packageBytes (l .behind) (c .issuePackage))
 
 pub body-around : (l : Layout) (forms : Forms) (c : Command) → bodyOk l c ≡ true
     → bodyBytes l forms c ≡ beforeElements l c ++ (eachBytes forms (elementsOf c) ++ afterElements l c)

@@ -7,7 +7,7 @@ use mathlib.Core.Path.{_≡_, refl, sym, ap, _∙_, subst}
 use mathlib.Core.Logic.{_⊎_, inl, inr, _≢_}
 use mathlib.Core.Bool.{Bool, true, false, cond, true≢false}
 use mathlib.Core.List.{List, [], _∷_, _++_, append-nil, append-assoc}
-use mathlib.Core.Option.{Option, none}
+use mathlib.Core.Option.{Option, none, some}
 use lib.ListN.{length, length-append}
 use lib.Dec.{eqb}
 use borrow.Author.Tests.{eqb-true, eq-eqb, leb-true, le-leb}
@@ -18,10 +18,10 @@ use Rattle.felica_format.specs.Command.{Command}
 use Rattle.felica_format.specs.Layout.{Layout, classOf, layoutOf}
 use Rattle.felica_format.specs.Read.{gives, refused, answerOf, readPlainAs, readSecureAs, readBody, readPayload, readFrame, readSecure}
 use Rattle.felica_format.specs.Write.{Forms, longBytes, bodyBytes, secureOf, frameOf}
-use Rattle.felica_format.specs.Writable.{bodyOk, fitsClass, writable}
+use Rattle.felica_format.specs.Writable.{bodyOk, fitsClass, writable, shortest, written}
 use Rattle.felica_format.specs.Demand3.{FrameGives, PayloadGives, HasFrame, HasPayload, MayFollow, Around, FramesAreChoices, PayloadsAreChoices}
-use Rattle.felica_format.specs.Demand3.{ShortFrameAccepted, ShortPayloadAccepted, OtherFramesLonger, OtherPayloadsLonger, UnwritableExactly}
-use Rattle.felica_format.specs.Demand3.{FrameReadBack, PayloadReadBack, TwoFrames, TwoPayloads, OneFormFrom256}
+use Rattle.felica_format.specs.Demand3.{ShortFrameAccepted, ShortPayloadAccepted, OtherFramesLonger, OtherPayloadsLonger}
+use Rattle.felica_format.specs.Demand3.{ShortFrameWritten, ShortPayloadWritten, UnwritableExactly, FrameReadBack, PayloadReadBack, TwoFrames, TwoPayloads, OneFormFrom256}
 use Rattle.felica_format.proofs.Tests.{tests, and-left, and-right, and-both}
 use Rattle.felica_format.proofs.Bytes.{allBelow-++, head-below}
 use Rattle.felica_format.proofs.Elements.{by-form, SameOrLonger}
@@ -227,6 +227,25 @@ writable-given c w = go (classOf (c .code)) refl
     go Secure class = inr (c .code, secureOf [] c, payload-written c class w)
     go Unknown class = absurd (unknown-unwritable c class w)
 
+some-not-none : {s : List ℕ} → some s ≡ none → ⊥
+some-not-none e = let z : _≡_ {A = ℕ} 0 1 = cc in omega arith
+
+written-some : (c : Command) (s : List ℕ) → written c ≡ some s → (writable c ≡ true) × (shortest (classOf (c .code)) c ≡ s)
+unfolding written
+written-some c s e = go (writable c) refl e
+  where
+    go : (b : Bool) → writable c ≡ b → cond b (some (shortest (classOf (c .code)) c)) none ≡ some s → (writable c ≡ true) × (shortest (classOf (c .code)) c ≡ s)
+    go true w e = (w, cc)
+    go false w e = absurd (some-not-none (sym e))
+
+none-written : (c : Command) → (writable c ≡ true → ⊥) → written c ≡ none
+unfolding written
+none-written c not = go (writable c) refl
+  where
+    go : (b : Bool) → writable c ≡ b → cond b (some (shortest (classOf (c .code)) c)) none ≡ none
+    go true w = absurd (not w)
+    go false w = refl
+
 -- ── the statements ──────────────────────────────────────────────────────────
 pub frames-are-choices : FramesAreChoices
 frames-are-choices c (t, g) s = (
@@ -263,25 +282,33 @@ other-frames-longer c s given other =
 pub other-payloads-longer : OtherPayloadsLonger
 other-payloads-longer c code s given other = longer s (secureOf [] c) (payload-longer code s c (secured code s c given)) other
 
+pub short-frame-written : ShortFrameWritten
+unfolding written
+short-frame-written c has = rw (frame-writable c has, framed (has .0) c (has .1) .class)
+
+pub short-payload-written : ShortPayloadWritten
+unfolding written
+short-payload-written c has = rw (payload-writable c has, secured (has .0) (has .1) c (has .2) .class)
+
 pub unwritable-exactly : UnwritableExactly
 unwritable-exactly c = (
-  λ no. (λ has. true≢false (sym (frame-writable c has) ∙ no), λ has. true≢false (sym (payload-writable c has) ∙ no)),
-  λ neither. go neither (writable c) refl,
+  λ no. (λ has. some-not-none (sym (short-frame-written c has) ∙ no), λ has. some-not-none (sym (short-payload-written c has) ∙ no)),
+  λ neither. none-written c λ w. by neither (writable-given c w),
 )
   where
-    go : (¬ HasFrame c) × (¬ HasPayload c) → (b : Bool) → writable c ≡ b → b ≡ false
-    go neither true w = by (writable-given c w)
-      where
-        by : HasFrame c ⊎ HasPayload c → true ≡ false
-        by (inl has) = absurd (neither .0 has)
-        by (inr has) = absurd (neither .1 has)
-    go neither false w = refl
+    by : (¬ HasFrame c) × (¬ HasPayload c) → HasFrame c ⊎ HasPayload c → ⊥
+    by neither (inl has) = neither .0 has
+    by neither (inr has) = neither .1 has
 
 pub frame-read-back : FrameReadBack
-frame-read-back = frame-written
+frame-read-back c s class e =
+    let w = written-some c s e in
+    subst (λ (t : List ℕ). (length t ≤ 255) × FrameGives t c) (ap (λ (k : Class). shortest k c) (sym class) ∙ w .1) (frame-written c class (w .0))
 
 pub payload-read-back : PayloadReadBack
-payload-read-back = payload-written
+payload-read-back c s class e =
+    let w = written-some c s e in
+    subst (λ (t : List ℕ). PayloadGives (c .code) t c) (ap (λ (k : Class). shortest k c) (sym class) ∙ w .1) (payload-written c class (w .0))
 
 pub two-frames : TwoFrames
 two-frames c s t gs gt = (

@@ -9,18 +9,18 @@ use lib.ListN.{length, getD, take, drop, length-append, length-replicate, take-a
 use lib.Seq.{take-at, drop-at, length-take-le}
 use borrow.Author.Tests.{ltb-true, ltb-false, eqb-true, not-false, lt-ltb, le-ltb, eq-eqb}
 use Rattle.felica_format.specs.Basic.{_and_, Bytes, isOneOf, zeros, wordOf, wordAt, taken, refuseIf}
-use Rattle.felica_format.specs.Command.{Fixed}
+use Rattle.felica_format.specs.Command.{EndFields, endFields}
 use Rattle.felica_format.specs.Layout.{Ending, bytes, word, words, reserved, polling, parameter, Behind, nothing, ignoredBytes, aPackage}
-use Rattle.felica_format.specs.Read.{sizeOf, timeSlots, zeroAt, fixed, readValues, tooLong, readEnding, readPackage}
+use Rattle.felica_format.specs.Read.{sizeOf, timeSlots, zeroAt, readValues, tooLong, readEnding, readPackage}
 use Rattle.felica_format.specs.Write.{endingBytes, packageBytes}
-use Rattle.felica_format.specs.Writable.{Ranges, ranges, rangesOf, fixedOk, packageOk, isEmpty}
+use Rattle.felica_format.specs.Writable.{Ranges, ranges, rangesOf, endFieldsOk, packageOk, isEmpty}
 use Rattle.felica_format.proofs.Tests.{tests, and-left, and-right, and-both, sameList-true, sameList-refl, isEmpty-true, length-zero, one-below}
 use Rattle.felica_format.proofs.Bytes.{allBelow-++, bytes-right, bytes-take, bytes-zeros, byte-below, firsts-drop}
 use Rattle.felica_format.proofs.Steps.{taken-value, taken-rest, refuseIf-passed, refuseIf-taken}
 
 same-taken : {n n′ i i′ o o′ c c′ : ℕ} {b b′ r r′ : List ℕ} → n ≡ n′ → i ≡ i′ → o ≡ o′ → c ≡ c′ → b ≡ b′ → r ≡ r′
-    → taken (fixed n i o c b) r ≡ taken (fixed n′ i′ o′ c′ b′) r′
-same-taken p q r s t u = λ k. taken (record { number = p k; index = q k; option = r k; choice = s k; block = t k }) (u k)
+    → taken (endFields n i o c b) r ≡ taken (endFields n′ i′ o′ c′ b′) r′
+same-taken p q r s t u = λ k. taken (record { number = p k; index = q k; option = r k; choice = s k; challenge = t k }) (u k)
 
 one-of-zero : (x : ℕ) → isOneOf (0 ∷ []) x ≡ true → x < 1
 one-of-zero x e = one-below 1 (0 ∷ []) x (and-both refl refl) e
@@ -34,18 +34,18 @@ bits-one-of (suc zero) h = refl
 bits-one-of (suc (suc x)) h = absurd (omega arith)
 
 -- what its ranges say of each fixed field
-record In (r : Ranges) (f : Fixed) : Type 0 where
+record In (r : Ranges) (f : EndFields) : Type 0 where
   number : f .number < r .numbers
   index : f .index < r .indices
   option : f .option < r .options
   choice : isOneOf (r .choices) (f .choice) ≡ true
-  size : length (f .block) ≡ 16
-  small : Bytes (f .block)
-  blank : drop (r .filled) (f .block) ≡ zeros (16 - r .filled)
+  size : length (f .challenge) ≡ 16
+  small : Bytes (f .challenge)
+  blank : drop (r .filled) (f .challenge) ≡ zeros (16 - r .filled)
 
-fixed-in : (r : Ranges) (f : Fixed) → fixedOk r f ≡ true → In r f
-unfolding fixedOk
-fixed-in r f ok =
+fields-in : (r : Ranges) (f : EndFields) → endFieldsOk r f ≡ true → In r f
+unfolding endFieldsOk
+fields-in r f ok =
     let ok₁ = and-right _ _ (and-right _ _ (and-right _ _ ok)) in
     let ok₂ = and-right _ _ ok₁ in
     record {
@@ -58,21 +58,21 @@ fixed-in r f ok =
       blank = sameList-true _ _ (and-right _ _ ok₂);
     }
 
-in-fixed : (r : Ranges) (f : Fixed) → In r f → fixedOk r f ≡ true
-unfolding fixedOk
-in-fixed r f h =
+in-fields : (r : Ranges) (f : EndFields) → In r f → endFieldsOk r f ≡ true
+unfolding endFieldsOk
+in-fields r f h =
     and-both (lt-ltb _ _ (h .number)) (and-both (lt-ltb _ _ (h .index)) (and-both (lt-ltb _ _ (h .option)) (and-both (h .choice)
     (and-both (and-both (eq-eqb _ _ (h .size)) (h .small)) (rw (h .blank) (sameList-refl (zeros (16 - r .filled))))))))
 
 -- what was written
-values-back : (e : Ending) (f : Fixed) (rest : List ℕ) → sizeOf e ≤ 16 → In (rangesOf e) f → readValues e (endingBytes e f ++ rest) ≡ taken f rest
+values-back : (e : Ending) (f : EndFields) (rest : List ℕ) → sizeOf e ≤ 16 → In (rangesOf e) f → readValues e (endingBytes e f ++ rest) ≡ taken f rest
 unfolding readValues endingBytes refuseIf _and_
 values-back (bytes n) f rest short h =
     let c = one-of-zero (f .choice) (h .choice) in
-    let len : length (take n (f .block)) ≡ n = length-take-le n (f .block) (omega (arith, h .size)) in
+    let len : length (take n (f .challenge)) ≡ n = length-take-le n (f .challenge) (omega (arith, h .size)) in
     same-taken (omega arith) (omega arith) (omega arith) (omega arith)
-    (rw (take-at (take n (f .block)) rest n len, ← h .blank) (take-append-drop n (f .block)))
-    (drop-at (take n (f .block)) rest n len)
+    (rw (take-at (take n (f .challenge)) rest n len, ← h .blank) (take-append-drop n (f .challenge)))
+    (drop-at (take n (f .challenge)) rest n len)
 values-back word f rest short h =
     let c = one-of-zero (f .choice) (h .choice) in
     same-taken (omega arith) (omega arith) (omega arith) (omega arith) (sym (h .blank)) refl
@@ -90,18 +90,18 @@ values-back parameter f rest short h =
     rw (le-ltb 1 (f .option) (omega arith), le-ltb 1 (f .choice) (omega arith))
     (same-taken (omega arith) (omega arith) refl refl (sym (h .blank)) refl)
 
-ending-length : (e : Ending) (f : Fixed) → sizeOf e ≤ 16 → In (rangesOf e) f → length (endingBytes e f) ≡ sizeOf e
+ending-length : (e : Ending) (f : EndFields) → sizeOf e ≤ 16 → In (rangesOf e) f → length (endingBytes e f) ≡ sizeOf e
 unfolding endingBytes
-ending-length (bytes n) f short h = length-take-le n (f .block) (omega (arith, h .size))
+ending-length (bytes n) f short h = length-take-le n (f .challenge) (omega (arith, h .size))
 ending-length word f short h = refl
 ending-length words f short h = refl
 ending-length reserved f short h = refl
 ending-length polling f short h = refl
 ending-length parameter f short h = refl
 
-values-small : (e : Ending) (f : Fixed) → In (rangesOf e) f → Bytes (endingBytes e f)
+values-small : (e : Ending) (f : EndFields) → In (rangesOf e) f → Bytes (endingBytes e f)
 unfolding endingBytes
-values-small (bytes n) f h = bytes-take n (f .block) (h .small)
+values-small (bytes n) f h = bytes-take n (f .challenge) (h .small)
 values-small word f h = and-both (omega tests) (and-both (omega tests) refl)
 values-small words f h = and-both (omega tests) (and-both (omega tests) (and-both (omega tests) (and-both (omega tests) refl)))
 values-small reserved f h = bytes-zeros 2
@@ -113,17 +113,17 @@ values-small parameter f h =
     and-both refl (and-both refl (and-both refl (and-both refl (and-both (omega tests) (and-both (omega tests) (bytes-zeros 2))))))
 
 -- what was read
-Values : Ending → List ℕ → Fixed → List ℕ → Type 0
+Values : Ending → List ℕ → EndFields → List ℕ → Type 0
 Values e s f rest = In (rangesOf e) f × (s ≡ endingBytes e f ++ rest)
 
-values-as : (e : Ending) (s : List ℕ) {f g : Fixed} {r t : List ℕ} → taken g t ≡ taken f r → Values e s g t → Values e s f r
-values-as e s q h = subst₂ (λ (x : Fixed) (y : List ℕ). Values e s x y) (taken-value q) (taken-rest q) h
+values-as : (e : Ending) (s : List ℕ) {f g : EndFields} {r t : List ℕ} → taken g t ≡ taken f r → Values e s g t → Values e s f r
+values-as e s q h = subst₂ (λ (x : EndFields) (y : List ℕ). Values e s x y) (taken-value q) (taken-rest q) h
 
--- no block
-in-blank : {n i o c ns is os : ℕ} {cs : List ℕ} → n < ns → i < is → o < os → isOneOf cs c ≡ true → In (ranges ns is os cs 0) (fixed n i o c (zeros 16))
+-- no challenge
+in-blank : {n i o c ns is os : ℕ} {cs : List ℕ} → n < ns → i < is → o < os → isOneOf cs c ≡ true → In (ranges ns is os cs 0) (endFields n i o c (zeros 16))
 in-blank p q r t = record { number = p; index = q; option = r; choice = t; size = refl; small = bytes-zeros 16; blank = refl }
 
-values-only : (e : Ending) (s : List ℕ) (f : Fixed) (rest : List ℕ) → sizeOf e ≤ 16 → sizeOf e ≤ length s → Bytes s → readValues e s ≡ taken f rest → Values e s f rest
+values-only : (e : Ending) (s : List ℕ) (f : EndFields) (rest : List ℕ) → sizeOf e ≤ 16 → sizeOf e ≤ length s → Bytes s → readValues e s ≡ taken f rest → Values e s f rest
 unfolding readValues endingBytes Values
 values-only (bytes n) s f rest short enough small r =
     let len : length (take n s) ≡ n = length-take-le n s enough in
@@ -216,11 +216,11 @@ left-fits nothing pack rest n ok h = let e : length rest ≡ 0 = ap length h in 
 left-fits ignoredBytes pack rest n ok h = refl
 left-fits aPackage pack rest n ok h = refl
 
-pub ending-back : (e : Ending) (b : Behind) (f : Fixed) (pack rest : List ℕ) → sizeOf e ≤ 16 → fixedOk (rangesOf e) f ≡ true → packageOk b pack ≡ true → Left b rest
+pub ending-back : (e : Ending) (b : Behind) (f : EndFields) (pack rest : List ℕ) → sizeOf e ≤ 16 → endFieldsOk (rangesOf e) f ≡ true → packageOk b pack ≡ true → Left b rest
     → readEnding e b (endingBytes e f ++ (packageBytes b pack ++ rest)) ≡ taken f (packageBytes b pack ++ rest)
 unfolding readEnding refuseIf
 ending-back e b f pack rest short ok pok left =
-    let h = fixed-in (rangesOf e) f ok in
+    let h = fields-in (rangesOf e) f ok in
     let after : List ℕ = packageBytes b pack ++ rest in
     let size = ending-length e f short h in
     let len : length (endingBytes e f ++ after) ≡ sizeOf e + length after = rw (length-append (endingBytes e f) after, size) in
@@ -238,8 +238,8 @@ package-small nothing pack ok = refl
 package-small ignoredBytes pack ok = refl
 package-small aPackage pack ok = ok
 
-pub ending-small : (e : Ending) (f : Fixed) → fixedOk (rangesOf e) f ≡ true → Bytes (endingBytes e f)
-ending-small e f ok = values-small e f (fixed-in (rangesOf e) f ok)
+pub ending-small : (e : Ending) (f : EndFields) → endFieldsOk (rangesOf e) f ≡ true → Bytes (endingBytes e f)
+ending-small e f ok = values-small e f (fields-in (rangesOf e) f ok)
 
 package-only : (b : Behind) (n : ℕ) (after pack rest : List ℕ) → Bytes after → tooLong b n (n + length after) ≡ false
     → readPackage b after ≡ taken pack rest → (packageOk b pack ≡ true) × Left b rest × (after ≡ packageBytes b pack ++ rest)
@@ -250,9 +250,9 @@ package-only nothing n after pack rest small fits r =
 package-only ignoredBytes n after pack rest small fits r = (rw (← taken-value r), rw (← taken-rest r) small, taken-rest r)
 package-only aPackage n after pack rest small fits r = (rw (← taken-value r) small, sym (taken-rest r), rw (← taken-value r, ← taken-rest r) (sym (append-nil after)))
 
-pub ending-only : (e : Ending) (b : Behind) (s : List ℕ) (f : Fixed) (after pack rest : List ℕ) → sizeOf e ≤ 16 → Bytes s
+pub ending-only : (e : Ending) (b : Behind) (s : List ℕ) (f : EndFields) (after pack rest : List ℕ) → sizeOf e ≤ 16 → Bytes s
     → readEnding e b s ≡ taken f after → readPackage b after ≡ taken pack rest
-    → (fixedOk (rangesOf e) f ≡ true) × (packageOk b pack ≡ true) × Left b rest × (s ≡ endingBytes e f ++ (packageBytes b pack ++ rest))
+    → (endFieldsOk (rangesOf e) f ≡ true) × (packageOk b pack ≡ true) × Left b rest × (s ≡ endingBytes e f ++ (packageBytes b pack ++ rest))
 unfolding readEnding Values
 ending-only e b s f after pack rest short small r q =
     let enough : sizeOf e ≤ length s = ltb-false _ _ (refuseIf-passed _ _ _ r) in
@@ -261,4 +261,4 @@ ending-only e b s f after pack rest short small r q =
     let v = values-only e s f after short enough small (refuseIf-taken _ _ _ r₁) in
     let len : length s ≡ sizeOf e + length after = ap length (v .1) ∙ rw (length-append, ending-length e f short (v .0)) in
     let p = package-only b (sizeOf e) after pack rest (bytes-right (endingBytes e f) after (rw (v .1) at small)) (rw len at fits) q in
-    (in-fixed (rangesOf e) f (v .0), p .0, p .1, v .1 ∙ ap (λ (t : List ℕ). endingBytes e f ++ t) (p .2))
+    (in-fields (rangesOf e) f (v .0), p .0, p .1, v .1 ∙ ap (λ (t : List ℕ). endingBytes e f ++ t) (p .2))

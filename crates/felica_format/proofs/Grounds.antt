@@ -13,12 +13,12 @@ use Rattle.felica_format.specs.declared.classes.Class.{Class}
 use Rattle.felica_format.specs.declared.classes.Class.the-variants.{Plain, Secure, Unknown}
 use Rattle.felica_format.specs.Basic.{Step, taken, refuse, bind, refuseIf}
 use Rattle.felica_format.specs.Command.{Command}
-use Rattle.felica_format.specs.Layout.{Lead, noLead, typeByte, anyByte, Codes, noCodes, _to_, Ending, bytes, word, words, reserved, polling, parameter}
+use Rattle.felica_format.specs.Layout.{Selector, noSelector, typeByte, anyByte, Codes, noCodes, _to_, Ending, bytes, word, words, reserved, polling, parameter}
 use Rattle.felica_format.specs.Layout.{Behind, nothing, ignoredBytes, aPackage, Layout, classOf, layoutOf}
-use Rattle.felica_format.specs.Read.{readBytes, readIdm, readLead, readCount, readWords, readCodes, readShort, readLong, readElement, readEach}
+use Rattle.felica_format.specs.Read.{readBytes, readIdm, readSelector, readCount, readWords, readCodes, readShort, readLong, readElement, readEach}
 use Rattle.felica_format.specs.Read.{readElements, readData, readValues, readEnding, readPackage, ifCodes, readBody, refused, answerOf}
 use Rattle.felica_format.specs.Read.{readPlainAs, readSecureAs, readPayload, readFrame, readSecure}
-use Rattle.felica_format.specs.Grounds.{Alone, WithCode, FrameRefusals, PayloadRefusals, SecureRefusals}
+use Rattle.felica_format.specs.Grounds.{Number, FrameRefusals, PayloadRefusals, SecureRefusals}
 
 -- a ground of a body
 abbrev Ground : ℕ → Type 0
@@ -46,13 +46,13 @@ unfolding readIdm
 idm-grounded false s = took
 idm-grounded true s = bytes-grounded 8 6 s tt
 
-lead-grounded : (lead : Lead) (s : List ℕ) → Grounded (readLead lead s)
-unfolding readLead
-lead-grounded noLead s = took
-lead-grounded typeByte [] = refuses tt
-lead-grounded typeByte (b ∷ s) = if-grounded _ _ _ tt took
-lead-grounded anyByte [] = refuses tt
-lead-grounded anyByte (b ∷ s) = took
+selector-grounded : (selector : Selector) (s : List ℕ) → Grounded (readSelector selector s)
+unfolding readSelector
+selector-grounded noSelector s = took
+selector-grounded typeByte [] = refuses tt
+selector-grounded typeByte (b ∷ s) = if-grounded _ _ _ tt took
+selector-grounded anyByte [] = refuses tt
+selector-grounded anyByte (b ∷ s) = took
 
 count-grounded : (missing outside least greatest : ℕ) (s : List ℕ) → Ground missing → Ground outside → Grounded (readCount missing outside least greatest s)
 unfolding readCount
@@ -119,7 +119,7 @@ body-grounded : (code : ℕ) (l : Layout) (s : List ℕ) → Grounded (readBody 
 unfolding readBody
 body-grounded code l s =
     bind-grounded _ _ (idm-grounded (l .idm) s) λ idm s₁.
-    bind-grounded _ _ (lead-grounded (l .lead) s₁) λ selector s₂.
+    bind-grounded _ _ (selector-grounded (l .selector) s₁) λ selector s₂.
     bind-grounded _ _ (codes-grounded 9 10 (l .first) s₂ tt tt) λ first s₃.
     bind-grounded _ _ (codes-grounded 11 12 (l .second) s₃ tt tt) λ second s₄.
     bind-grounded _ _ (elements-grounded _ _ (l .elements) s₄ (if-codes (l .first) 11 9 tt tt) (if-codes (l .first) 12 10 tt tt)) λ elements s₅.
@@ -133,48 +133,50 @@ split : (a b : Bool) → T (a && b) → T a × T b
 split true b h = (tt, h)
 split false b h = absurd h
 
-coded : (i k n : ℕ) (code : Option ℕ) → 4 ≤ i → i ≤ 20 → refused i (some k) ≡ refused n code → WithCode n k code
-coded i k n code low high e =
+number : (least greatest i n : ℕ) (given code : Option ℕ) → least ≤ i → i ≤ greatest → refused i given ≡ refused n code → Number least greatest n given code
+number least greatest i n given code low high e =
     let same : i ≡ n = cc in
     (omega arith, omega arith, cc)
 
-answer-coded : (k : ℕ) (m : Step Command) (n : ℕ) (code : Option ℕ) → Grounded m → answerOf k m ≡ refused n code → WithCode n k code
-answer-coded k (taken c rest) n code g e = absurd (let z : _≡_ {A = ℕ} 0 1 = cc in omega arith)
-answer-coded k (refuse i) n code (refuses g) e =
+-- the answer to a body
+body-number : (k : ℕ) (m : Step Command) (n : ℕ) (code : Option ℕ) → Grounded m → answerOf k m ≡ refused n code → Number 6 20 n (some k) code
+body-number k (taken c rest) n code g e = absurd (let z : _≡_ {A = ℕ} 0 1 = cc in omega arith)
+body-number k (refuse i) n code (refuses g) e =
     let h = split (leb 6 i) (leb i 20) g in
-    let low = leb→le 6 i (h .0) in
-    coded i k n code (omega arith) (leb→le i 20 (h .1)) e
+    number 6 20 i n (some k) code (leb→le 6 i (h .0)) (leb→le i 20 (h .1)) e
 
-alone : (i n : ℕ) (code : Option ℕ) → 1 ≤ i → i ≤ 3 → refused i none ≡ refused n code → Alone n code
-alone i n code low high e =
-    let same : i ≡ n = cc in
-    (omega arith, omega arith, cc)
+from : (least lower greatest n : ℕ) (given code : Option ℕ) → lower ≤ least → Number least greatest n given code → Number lower greatest n given code
+from least lower greatest n given code low h = (omega (arith, low, h .0), h .1, h .2)
 
-plain-coded : (class : Class) (k : ℕ) (s : List ℕ) (n : ℕ) (code : Option ℕ) → readPlainAs class k s ≡ refused n code → WithCode n k code
-plain-coded Plain k s n code e = answer-coded k _ n code (body-grounded k (layoutOf k) s) e
-plain-coded Secure k s n code e = coded 4 k n code (omega arith) (omega arith) e
-plain-coded Unknown k s n code e = coded 5 k n code (omega arith) (omega arith) e
+plain-number : (class : Class) (k : ℕ) (s : List ℕ) (n : ℕ) (code : Option ℕ) → readPlainAs class k s ≡ refused n code → Number 4 20 n (some k) code
+plain-number Plain k s n code e = from 6 4 20 n (some k) code (omega arith) (body-number k _ n code (body-grounded k (layoutOf k) s) e)
+plain-number Secure k s n code e = number 4 20 4 n (some k) code (omega arith) (omega arith) e
+plain-number Unknown k s n code e = number 4 20 5 n (some k) code (omega arith) (omega arith) e
 
-secure-coded : (class : Class) (k : ℕ) (s : List ℕ) (n : ℕ) (code : Option ℕ) → readSecureAs class k s ≡ refused n code → WithCode n k code
-secure-coded Plain k s n code e = coded 5 k n code (omega arith) (omega arith) e
-secure-coded Secure k s n code e = answer-coded k _ n code (body-grounded k (layoutOf k) s) e
-secure-coded Unknown k s n code e = coded 5 k n code (omega arith) (omega arith) e
+secure-number : (class : Class) (k : ℕ) (s : List ℕ) (n : ℕ) (code : Option ℕ) → readSecureAs class k s ≡ refused n code → Number 5 20 n (some k) code
+secure-number Plain k s n code e = number 5 20 5 n (some k) code (omega arith) (omega arith) e
+secure-number Secure k s n code e = from 6 5 20 n (some k) code (omega arith) (body-number k _ n code (body-grounded k (layoutOf k) s) e)
+secure-number Unknown k s n code e = number 5 20 5 n (some k) code (omega arith) (omega arith) e
 
 -- ── the statements ──────────────────────────────────────────────────────────
 pub payload-refusals : PayloadRefusals
 unfolding readPayload
-payload-refusals [] n code e = inl (alone 3 n code (omega arith) (omega arith) e)
-payload-refusals (k ∷ s) n code e = inr (plain-coded (classOf k) k s n code e)
+payload-refusals [] n code e = inl (number 3 3 3 n none code (omega arith) (omega arith) e)
+payload-refusals (k ∷ s) n code e = inr (plain-number (classOf k) k s n code e)
 
 pub frame-refusals : FrameRefusals
 unfolding readFrame
-frame-refusals [] n code e = inl (alone 1 n code (omega arith) (omega arith) e)
+frame-refusals [] n code e = inl (number 1 3 1 n none code (omega arith) (omega arith) e)
 frame-refusals (size ∷ payload) n code e = go (eqb size (suc (length payload))) e
   where
-    go : (b : Bool) → cond b (readPayload payload) (refused 2 none) ≡ refused n code → Alone n code ⊎ WithCode n (getD payload 0 0) code
-    go true e = payload-refusals payload n code e
-    go false e = inl (alone 2 n code (omega arith) (omega arith) e)
+    wider : Number 3 3 n none code ⊎ Number 4 20 n (some (getD payload 0 0)) code → Number 1 3 n none code ⊎ Number 4 20 n (some (getD payload 0 0)) code
+    wider (inl h) = inl (from 3 1 3 n none code (omega arith) h)
+    wider (inr h) = inr h
+
+    go : (b : Bool) → cond b (readPayload payload) (refused 2 none) ≡ refused n code → Number 1 3 n none code ⊎ Number 4 20 n (some (getD payload 0 0)) code
+    go true e = wider (payload-refusals payload n code e)
+    go false e = inl (number 1 3 2 n none code (omega arith) (omega arith) e)
 
 pub secure-refusals : SecureRefusals
 unfolding readSecure
-secure-refusals k s n code e = secure-coded (classOf k) k s n code e
+secure-refusals k s n code e = secure-number (classOf k) k s n code e

@@ -1,4 +1,4 @@
--- The laws of IDm, leading byte, code lists and data, each there or not.
+-- The laws of IDm, selector, code lists and data, each there or not.
 -- Assumes nothing.
 use Prim.Native.Nat.{ℕ, zero, suc, _+_, _*_, _/_, _%_, _≤_, _<_}
 use native.Mathlib.Omega.{arith}
@@ -10,10 +10,10 @@ use lib.Seq.{drop-at}
 use lib.Dec.{ltb, leb, eqb}
 use borrow.Author.Tests.{ltb-true, ltb-false, eqb-true}
 use Rattle.felica_format.specs.Basic.{_and_, allBelow, Bytes, zeros, refuseIf}
-use Rattle.felica_format.specs.Layout.{Lead, noLead, typeByte, anyByte, Codes, noCodes, _to_, boundsOf}
-use Rattle.felica_format.specs.Read.{readIdm, readLead, wordsOf, readWords, readCodes, readData}
-use Rattle.felica_format.specs.Write.{idmBytes, leadBytes, wordsBytes, codesBytes, dataBytes}
-use Rattle.felica_format.specs.Writable.{sameList, isEmpty, idmOk, leadOk, codesOk, dataOk}
+use Rattle.felica_format.specs.Layout.{Selector, noSelector, typeByte, anyByte, Codes, noCodes, _to_, boundsOf}
+use Rattle.felica_format.specs.Read.{readIdm, readSelector, wordsOf, readWords, readCodes, readData}
+use Rattle.felica_format.specs.Write.{idmBytes, selectorBytes, wordsBytes, codesBytes, dataBytes}
+use Rattle.felica_format.specs.Writable.{sameList, isEmpty, idmOk, selectorOk, codesOk, dataOk}
 use Rattle.felica_format.proofs.Tests.{tests, and-left, and-right, and-both, sameList-true, sameList-refl, isEmpty-true}
 use Rattle.felica_format.proofs.Bytes.{head-below}
 use Rattle.felica_format.proofs.Steps.{taken-value, taken-rest, refuseIf-passed, refuseIf-taken, refuseIf-pass}
@@ -29,12 +29,12 @@ unfolding readData dataBytes dataOk
 data-laws true m = bytes-laws (16 * m) 17
 data-laws false m = absent-laws tt [] isEmpty refl (λ a h. isEmpty-true a h)
 
-pub lead-laws : (lead : Lead) → Laws One (readLead lead) (λ f a. leadBytes lead a) (leadOk lead)
-unfolding readLead leadBytes leadOk refuseIf
-lead-laws noLead = absent-laws tt 0 (λ b. eqb b 0) refl (λ b h. eqb-true b 0 h)
-lead-laws typeByte = byte-laws (readLead typeByte) 7 19 (λ b. ltb 1 b) (λ b. leb b 1) refl (λ b s. refl)
+pub selector-laws : (selector : Selector) → Laws One (readSelector selector) (λ f a. selectorBytes selector a) (selectorOk selector)
+unfolding readSelector selectorBytes selectorOk refuseIf
+selector-laws noSelector = absent-laws tt 0 (λ b. eqb b 0) refl (λ b h. eqb-true b 0 h)
+selector-laws typeByte = byte-laws (readSelector typeByte) 7 19 (λ b. ltb 1 b) (λ b. leb b 1) refl (λ b s. refl)
     (λ b h. (omega tests, omega tests)) (λ b small h. omega tests)
-lead-laws anyByte = byte-laws (readLead anyByte) 7 0 (λ b. false) (λ b. ltb b 256) refl (λ b s. refl)
+selector-laws anyByte = byte-laws (readSelector anyByte) 7 0 (λ b. false) (λ b. ltb b 256) refl (λ b s. refl)
     (λ b h. (refl, omega tests)) (λ b small h. omega tests)
 
 -- n two-byte numbers

@@ -58,7 +58,7 @@ secure-row : (test : ℕ → Layout → Bool) → everyRow test secureRows ≡ t
 unfolding layoutOf
 secure-row test all code e = rw (secure-has code e .0) (in-rows test secureRows code all (secure-has code e .1))
 
--- the code and each count are bytes, and the fixed bytes fit the block
+-- the code and each count are bytes, and the fixed bytes fit the challenge
 narrow : ℕ → Layout → Bool
 narrow code l = ltb code 256 and ltb (boundsOf (l .first) .greatest) 256 and ltb (boundsOf (l .second) .greatest) 256 and leb (sizeOf (l .ending)) 16
 

@@ -5,18 +5,21 @@ use Prim.Native.Nat.{ℕ}
 use mathlib.Core.List.{List, [], _∷_, map}
 use lib.ListN.{getD, drop}
 
--- The fixed fields at the end of a body, by code:
---   number   00 system code; 0A service index; 1A parent node code; 24 node code; 2E property; 82 area code; 84 service code
---   index    1A index
---   option   00 request code; 20 encryption type
---   choice   00 time slots; 20 packet type
---   block    16 bytes. 40, 42: the challenge; 10, 12: the challenge of 8 bytes, then eight 00; 80: issue id, then issue parameter
-pub record Fixed : Type 0 where
+-- The fields of the fixed bytes that end a body, by code:
+--   number      00 system code; 0A service index; 1A parent node code; 24 node code; 2E property; 82 area code; 84 service code
+--   index       1A index
+--   option      00 request code; 20 encryption type
+--   choice      00 time slots; 20 packet type
+--   challenge   16 bytes. 40, 42: the challenge; 10, 12: the challenge of 8 bytes, then eight 00; 80: issue id, then issue parameter
+pub record EndFields : Type 0 where
   pub number : ℕ
   pub index : ℕ
   pub option : ℕ
   pub choice : ℕ
-  pub block : List ℕ
+  pub challenge : List ℕ
+
+abbrev pub endFields : ℕ → ℕ → ℕ → ℕ → List ℕ → EndFields
+endFields n i o c b = record { number = n; index = i; option = o; choice = c; challenge = b }
 
 --   idm            8 bytes
 --   selector       28 property type; 40 operation parameter
@@ -24,7 +27,7 @@ pub record Fixed : Type 0 where
 --   second         10 services
 --   numbers, places, modes   the block list: of each element its block number, its place in the service list, its access mode
 --   blockData      08, 16, 46: 16 bytes for each element
---   issuePackage   80, 82, 84: the package
+--   issuePackage   80, 82, 84: the package (`package` alone is a word of the language)
 pub record Command : Type 0 where
   pub code : ℕ
   pub idm : List ℕ
@@ -39,7 +42,7 @@ pub record Command : Type 0 where
   pub index : ℕ
   pub option : ℕ
   pub choice : ℕ
-  pub block : List ℕ
+  pub challenge : List ℕ
   pub issuePackage : List ℕ
 
 -- one element of a block list
@@ -57,12 +60,12 @@ zipElements (n ∷ numbers) places modes =
 abbrev pub elementsOf : Command → List Element
 elementsOf c = zipElements (c .numbers) (c .places) (c .modes)
 
-abbrev pub fixedOf : Command → Fixed
-fixedOf c = record { number = c .number; index = c .index; option = c .option; choice = c .choice; block = c .block }
+abbrev pub endFieldsOf : Command → EndFields
+endFieldsOf c = endFields (c .number) (c .index) (c .option) (c .choice) (c .challenge)
 
 -- the command of the parts read
-abbrev pub commandOf : ℕ → List ℕ → ℕ → List ℕ → List ℕ → List Element → List ℕ → Fixed → List ℕ → Command
-commandOf code idm selector first second elements blockData fixed issuePackage =
+abbrev pub commandOf : ℕ → List ℕ → ℕ → List ℕ → List ℕ → List Element → List ℕ → EndFields → List ℕ → Command
+commandOf code idm selector first second elements blockData ending issuePackage =
     record {
       code = code;
       idm = idm;
@@ -73,10 +76,10 @@ commandOf code idm selector first second elements blockData fixed issuePackage =
       places = map (λ e. e .place) elements;
       modes = map (λ e. e .mode) elements;
       blockData = blockData;
-      number = fixed .number;
-      index = fixed .index;
-      option = fixed .option;
-      choice = fixed .choice;
-      block = fixed .block;
+      number = ending .number;
+      index = ending .index;
+      option = ending .option;
+      choice = ending .choice;
+      challenge = ending .challenge;
       issuePackage = issuePackage;
     }

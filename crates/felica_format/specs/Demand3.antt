@@ -4,8 +4,9 @@
 use Prim.Native.Nat.{ℕ, _≤_, _<_}
 use mathlib.Core.Path.{_≡_}
 use mathlib.Core.Logic.{_⊎_, _≢_, _↔_}
-use mathlib.Core.Bool.{Bool, true, false}
+use mathlib.Core.Bool.{Bool, true}
 use mathlib.Core.List.{List, [], _∷_, _++_}
+use mathlib.Core.Option.{none, some}
 use lib.ListN.{length}
 use Rattle.felica_format.specs.declared.classes.Class.the-variants.{Plain, Secure}
 use Rattle.felica_format.specs.Basic.{Bytes, isOneOf}
@@ -13,7 +14,7 @@ use Rattle.felica_format.specs.Command.{Command, Element, elementsOf}
 use Rattle.felica_format.specs.Layout.{classOf}
 use Rattle.felica_format.specs.Read.{gives, readFrame, readSecure}
 use Rattle.felica_format.specs.Write.{Forms, longBytes, elementBytes, eachBytes, frameOf, secureOf}
-use Rattle.felica_format.specs.Writable.{writable}
+use Rattle.felica_format.specs.Writable.{written}
 
 -- "A frame, or a payload with its secure code, is accepted when the layouts and checks above find no ground against it, and gives the command
 -- read by its layout."
@@ -64,17 +65,24 @@ OtherFramesLonger = (c : Command) (s : List ℕ) → FrameGives s c → s ≢ fr
 abbrev pub OtherPayloadsLonger : Type 0
 OtherPayloadsLonger = (c : Command) (code : ℕ) (s : List ℕ) → PayloadGives code s c → s ≢ secureOf [] c → length (secureOf [] c) < length s
 
+-- "and the writer writes it byte for byte"
+abbrev pub ShortFrameWritten : Type 0
+ShortFrameWritten = (c : Command) → HasFrame c → written c ≡ some (frameOf [] c)
+
+abbrev pub ShortPayloadWritten : Type 0
+ShortPayloadWritten = (c : Command) → HasPayload c → written c ≡ some (secureOf [] c)
+
 -- "The writer says unwritable exactly when no accepted frame and no accepted secure payload gives the command." The payload may be of any code, and
 -- the three lists of the elements of any lengths.
 abbrev pub UnwritableExactly : Type 0
-UnwritableExactly = (c : Command) → (writable c ≡ false) ↔ ((¬ HasFrame c) × (¬ HasPayload c))
+UnwritableExactly = (c : Command) → (written c ≡ none) ↔ ((¬ HasFrame c) × (¬ HasPayload c))
 
 -- "What the writer writes, the parser reads as the command given."
 abbrev pub FrameReadBack : Type 0
-FrameReadBack = (c : Command) → classOf (c .code) ≡ Plain → writable c ≡ true → (length (frameOf [] c) ≤ 255) × FrameGives (frameOf [] c) c
+FrameReadBack = (c : Command) (s : List ℕ) → classOf (c .code) ≡ Plain → written c ≡ some s → (length s ≤ 255) × FrameGives s c
 
 abbrev pub PayloadReadBack : Type 0
-PayloadReadBack = (c : Command) → classOf (c .code) ≡ Secure → writable c ≡ true → PayloadGives (c .code) (secureOf [] c) c
+PayloadReadBack = (c : Command) (s : List ℕ) → classOf (c .code) ≡ Secure → written c ≡ some s → PayloadGives (c .code) s c
 
 -- the list is `before`, the command's elements in some forms, and `after`
 abbrev pub Around : Command → List ℕ → List ℕ → List ℕ → Type 0
@@ -86,7 +94,7 @@ TwoFrames =
     (c : Command) (s t : List ℕ) → FrameGives s c → FrameGives t c
     → (before : List ℕ) × (after : List ℕ) × Around c (length s ∷ before) after s × Around c (length t ∷ before) after t
 
--- Two accepted payloads are equal but for the forms of the elements and the ignored tail.
+-- Two accepted payloads of one command are of its code (`PayloadsAreChoices`), and equal but for the forms of the elements and the ignored tail.
 abbrev pub TwoPayloads : Type 0
 TwoPayloads =
     (c : Command) (s t : List ℕ) → PayloadGives (c .code) s c → PayloadGives (c .code) t c

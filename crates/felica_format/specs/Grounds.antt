@@ -8,20 +8,17 @@ use mathlib.Core.Option.{Option, none, some}
 use lib.ListN.{getD}
 use Rattle.felica_format.specs.Read.{refused, readPayload, readFrame, readSecure}
 
--- a number of the table, alone; a number of the table, with the code
-abbrev pub Alone : ℕ → Option ℕ → Type 0
-Alone n code = (1 ≤ n) × (n ≤ 3) × (code ≡ none)
-
-abbrev pub WithCode : ℕ → ℕ → Option ℕ → Type 0
-WithCode n k code = (4 ≤ n) × (n ≤ 20) × (code ≡ some k)
+-- a number from least to greatest, alone or with the code
+abbrev pub Number : ℕ → ℕ → ℕ → Option ℕ → Option ℕ → Type 0
+Number least greatest n given code = (least ≤ n) × (n ≤ greatest) × (code ≡ given)
 
 -- the code is the byte behind the length byte
 abbrev pub FrameRefusals : Type 0
-FrameRefusals = (s : List ℕ) (n : ℕ) (code : Option ℕ) → readFrame s ≡ refused n code → Alone n code ⊎ WithCode n (getD s 1 0) code
+FrameRefusals = (s : List ℕ) (n : ℕ) (code : Option ℕ) → readFrame s ≡ refused n code → Number 1 3 n none code ⊎ Number 4 20 n (some (getD s 1 0)) code
 
 abbrev pub PayloadRefusals : Type 0
-PayloadRefusals = (s : List ℕ) (n : ℕ) (code : Option ℕ) → readPayload s ≡ refused n code → Alone n code ⊎ WithCode n (getD s 0 0) code
+PayloadRefusals = (s : List ℕ) (n : ℕ) (code : Option ℕ) → readPayload s ≡ refused n code → Number 3 3 n none code ⊎ Number 4 20 n (some (getD s 0 0)) code
 
--- an empty secure payload is not 3: the code is always there
+-- an empty secure payload is not 3, so the code is always there
 abbrev pub SecureRefusals : Type 0
-SecureRefusals = (k : ℕ) (s : List ℕ) (n : ℕ) (code : Option ℕ) → readSecure k s ≡ refused n code → WithCode n k code
+SecureRefusals = (k : ℕ) (s : List ℕ) (n : ℕ) (code : Option ℕ) → readSecure k s ≡ refused n code → Number 5 20 n (some k) code

@@ -9,9 +9,9 @@ use Rattle.felica_format.specs.declared.classes.Class.{Class}
 use Rattle.felica_format.specs.declared.classes.Class.the-variants.{Plain, Secure, Unknown}
 use Rattle.felica_format.specs.declared.constants.Bounds.{Bounds}
 
--- the byte in front of a code list: none; the "type 00 or 01" of 28; the "one byte" of 40
-pub data Lead : Type 0 where
-  noLead typeByte anyByte : Lead
+-- the selector, a byte in front of a code list: none; the "type 00 or 01" of 28; the "one byte" of 40
+pub data Selector : Type 0 where
+  noSelector typeByte anyByte : Selector
 
 -- '"n codes" is a count byte and then n two-byte codes', n from the least to the greatest; or there is no such list
 infix 20 _to_
@@ -41,7 +41,7 @@ pub data Behind : Type 0 where
 -- every layout is this one order of parts, each there or not
 pub record Layout : Type 0 where
   pub idm : Bool
-  pub lead : Lead
+  pub selector : Selector
   pub first : Codes
   pub second : Codes
   pub elements : Bool
@@ -49,36 +49,37 @@ pub record Layout : Type 0 where
   pub ending : Ending
   pub behind : Behind
 
-abbrev pub layout : Bool → Lead → Codes → Codes → Bool → Bool → Ending → Behind → Layout
-layout i l f s e d n b = record { idm = i; lead = l; first = f; second = s; elements = e; blockData = d; ending = n; behind = b }
+abbrev pub layout : Bool → Selector → Codes → Codes → Bool → Bool → Ending → Behind → Layout
+layout i l f s e d n b = record { idm = i; selector = l; first = f; second = s; elements = e; blockData = d; ending = n; behind = b }
 
--- The words of a row: `ends e` is a layout of the fixed bytes e alone, and each word before it puts one part in front.
+-- The words of a row: `ends e` is a layout of the fixed bytes e alone, and each other word adds one part. The order is
+-- the record's.
 abbrev pub ends : Ending → Layout
-ends e = layout false noLead noCodes noCodes false false e nothing
+ends e = layout false noSelector noCodes noCodes false false e nothing
 
 infix 15 _followedBy_
 abbrev pub _followedBy_ : Layout → Behind → Layout
-l followedBy b = layout (l .idm) (l .lead) (l .first) (l .second) (l .elements) (l .blockData) (l .ending) b
+l followedBy b = layout (l .idm) (l .selector) (l .first) (l .second) (l .elements) (l .blockData) (l .ending) b
 
 abbrev pub IDm : Layout → Layout
-IDm l = layout true (l .lead) (l .first) (l .second) (l .elements) (l .blockData) (l .ending) (l .behind)
+IDm l = layout true (l .selector) (l .first) (l .second) (l .elements) (l .blockData) (l .ending) (l .behind)
 
-abbrev pub lead : Lead → Layout → Layout
-lead byte l = layout (l .idm) byte (l .first) (l .second) (l .elements) (l .blockData) (l .ending) (l .behind)
+abbrev pub selector : Selector → Layout → Layout
+selector byte l = layout (l .idm) byte (l .first) (l .second) (l .elements) (l .blockData) (l .ending) (l .behind)
 
 abbrev pub codes : Codes → Layout → Layout
-codes range l = layout (l .idm) (l .lead) range (l .second) (l .elements) (l .blockData) (l .ending) (l .behind)
+codes range l = layout (l .idm) (l .selector) range (l .second) (l .elements) (l .blockData) (l .ending) (l .behind)
 
 abbrev pub moreCodes : Codes → Layout → Layout
-moreCodes range l = layout (l .idm) (l .lead) (l .first) range (l .elements) (l .blockData) (l .ending) (l .behind)
+moreCodes range l = layout (l .idm) (l .selector) (l .first) range (l .elements) (l .blockData) (l .ending) (l .behind)
 
 -- "m from 1 to 255, m elements"
 abbrev pub elements : Layout → Layout
-elements l = layout (l .idm) (l .lead) (l .first) (l .second) true (l .blockData) (l .ending) (l .behind)
+elements l = layout (l .idm) (l .selector) (l .first) (l .second) true (l .blockData) (l .ending) (l .behind)
 
 -- "16 × m data bytes"
 abbrev pub blockData : Layout → Layout
-blockData l = layout (l .idm) (l .lead) (l .first) (l .second) (l .elements) true (l .ending) (l .behind)
+blockData l = layout (l .idm) (l .selector) (l .first) (l .second) (l .elements) true (l .ending) (l .behind)
 
 infixr 10 _then_
 abbrev pub _then_ : (Layout → Layout) → Layout → Layout
@@ -110,14 +111,14 @@ plainRows =
     ∷ (0x20 is IDm then ends parameter)
     ∷ (0x22 is IDm then ends reserved)
     ∷ (0x24 is IDm then ends word)
-    ∷ (0x28 is IDm then lead typeByte then codes (1 to 16) then ends bare)
+    ∷ (0x28 is IDm then selector typeByte then codes (1 to 16) then ends bare)
     ∷ (0x2E is ends word)
     ∷ (0x32 is IDm then codes (1 to 32) then ends bare)
     ∷ (0x38 is IDm then ends reserved)
     ∷ (0x3A is IDm then ends bare)
     ∷ (0x3C is IDm then ends reserved)
     ∷ (0x3E is IDm then ends reserved)
-    ∷ (0x40 is IDm then lead anyByte then codes (1 to 32) then ends (bytes 16))
+    ∷ (0x40 is IDm then selector anyByte then codes (1 to 32) then ends (bytes 16))
     ∷ (0x42 is IDm then ends (bytes 16))
     ∷ (0x70 is ends reserved)
     ∷ []
@@ -156,6 +157,6 @@ abbrev pub boundsOf : Codes → Bounds
 boundsOf noCodes = record { least = 0; greatest = 0 }
 boundsOf (lo to hi) = record { least = lo; greatest = hi }
 
--- the bounds of the plain rows by their place, from 0
+-- the bounds of the plain rows by their place, from 0; where there is a second list, it has those of the first (`second-bounds` in proofs/Rows.antt)
 unfoldable pub boundsAt : ℕ → Bounds
 boundsAt i = boundsOf (getD plainRows i (0 is ends bare) .layout .first)

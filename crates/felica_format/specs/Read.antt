@@ -10,8 +10,8 @@ use lib.Dec.{ltb, eqb}
 use Rattle.felica_format.specs.declared.classes.Class.{Class}
 use Rattle.felica_format.specs.declared.classes.Class.the-variants.{Plain, Secure, Unknown}
 use Rattle.felica_format.specs.Basic.{_and_, isOneOf, zeros, wordOf, wordAt, Step, taken, refuse, bind, refuseIf}
-use Rattle.felica_format.specs.Command.{Fixed, Command, Element, commandOf}
-use Rattle.felica_format.specs.Layout.{Lead, noLead, typeByte, anyByte, Codes, noCodes, _to_, Ending, bytes, word, words, reserved}
+use Rattle.felica_format.specs.Command.{EndFields, endFields, Command, Element, commandOf}
+use Rattle.felica_format.specs.Layout.{Selector, noSelector, typeByte, anyByte, Codes, noCodes, _to_, Ending, bytes, word, words, reserved}
 use Rattle.felica_format.specs.Layout.{polling, parameter, Behind, nothing, ignoredBytes, aPackage, Layout, classOf, layoutOf}
 
 -- n bytes, or the ground where they are not whole
@@ -24,12 +24,12 @@ readIdm false s = taken (zeros 8) s
 readIdm true s = readBytes 8 6 s
 
 -- 7: operation or type byte missing; 19: property type undefined
-unfoldable pub readLead : Lead → List ℕ → Step ℕ
-readLead noLead s = taken 0 s
-readLead typeByte [] = refuse 7
-readLead typeByte (b ∷ s) = refuseIf (ltb 1 b) 19 (taken b s)
-readLead anyByte [] = refuse 7
-readLead anyByte (b ∷ s) = taken b s
+unfoldable pub readSelector : Selector → List ℕ → Step ℕ
+readSelector noSelector s = taken 0 s
+readSelector typeByte [] = refuse 7
+readSelector typeByte (b ∷ s) = refuseIf (ltb 1 b) 19 (taken b s)
+readSelector anyByte [] = refuse 7
+readSelector anyByte (b ∷ s) = taken b s
 
 -- a count byte; 9 or 11: missing; 10 or 12: outside its range
 unfoldable pub readCount : ℕ → ℕ → ℕ → ℕ → List ℕ → Step ℕ
@@ -100,38 +100,35 @@ abbrev pub zeroAt : ℕ → List ℕ → ℕ → Bool
 zeroAt zero s at = true
 zeroAt (suc n) s at = eqb (getD s at 0) 0 and zeroAt n s (suc at)
 
--- number, index, option, choice and block
-abbrev pub fixed : ℕ → ℕ → ℕ → ℕ → List ℕ → Fixed
-fixed n i o c b = record { number = n; index = i; option = o; choice = c; block = b }
-
 -- The values of the fixed bytes. 18: reserved byte not 00; 19: request code or encryption type undefined; 20: time slots or packet type undefined.
 -- "Set Parameter tests size, then D0 to D3, then D6 and D7, then encryption type, then packet type."
-unfoldable pub readValues : Ending → List ℕ → Step Fixed
-readValues (bytes n) s = taken (fixed 0 0 0 0 (take n s ++ zeros (16 - n))) (drop n s)
-readValues word s = taken (fixed (wordAt s 0) 0 0 0 (zeros 16)) (drop 2 s)
-readValues words s = taken (fixed (wordAt s 0) (wordAt s 2) 0 0 (zeros 16)) (drop 4 s)
+unfoldable pub readValues : Ending → List ℕ → Step EndFields
+readValues (bytes n) s = taken (endFields 0 0 0 0 (take n s ++ zeros (16 - n))) (drop n s)
+readValues word s = taken (endFields (wordAt s 0) 0 0 0 (zeros 16)) (drop 2 s)
+readValues words s = taken (endFields (wordAt s 0) (wordAt s 2) 0 0 (zeros 16)) (drop 4 s)
 readValues reserved s =
     refuseIf (not (zeroAt 2 s 0)) 18
-    (taken (fixed 0 0 0 0 (zeros 16)) (drop 2 s))
+    (taken (endFields 0 0 0 0 (zeros 16)) (drop 2 s))
 readValues polling s =
     refuseIf (ltb 2 (getD s 2 0)) 19
     (refuseIf (not (isOneOf timeSlots (getD s 3 0))) 20
-    (taken (fixed (wordOf (getD s 1 0) (getD s 0 0)) 0 (getD s 2 0) (getD s 3 0) (zeros 16)) (drop 4 s)))
+    (taken (endFields (wordOf (getD s 1 0) (getD s 0 0)) 0 (getD s 2 0) (getD s 3 0) (zeros 16)) (drop 4 s)))
 readValues parameter s =
     refuseIf (not (zeroAt 4 s 0)) 18
     (refuseIf (not (zeroAt 2 s 6)) 18
     (refuseIf (ltb 1 (getD s 4 0)) 19
     (refuseIf (ltb 1 (getD s 5 0)) 20
-    (taken (fixed 0 0 (getD s 4 0) (getD s 5 0) (zeros 16)) (drop 8 s)))))
+    (taken (endFields 0 0 (getD s 4 0) (getD s 5 0) (zeros 16)) (drop 8 s)))))
 
--- "Plain layouts end where the bytes end."
+-- "Plain layouts end where the bytes end." So does 8E's.
 abbrev pub tooLong : Behind → ℕ → ℕ → Bool
 tooLong nothing size n = ltb size n
 tooLong ignoredBytes size n = false
 tooLong aPackage size n = false
 
+-- 7: too short, challenge missing; 8: bytes past the layout, 8E not empty.
 -- "the fixed bytes that end a layout are measured first, 7 before 8, and only then are their values tested"
-unfoldable pub readEnding : Ending → Behind → List ℕ → Step Fixed
+unfoldable pub readEnding : Ending → Behind → List ℕ → Step EndFields
 readEnding e b s = refuseIf (ltb (length s) (sizeOf e)) 7 (refuseIf (tooLong b (sizeOf e) (length s)) 8 (readValues e s))
 
 unfoldable pub readPackage : Behind → List ℕ → Step (List ℕ)
@@ -148,7 +145,7 @@ ifCodes (least to greatest) second first = second
 unfoldable pub readBody : ℕ → Layout → List ℕ → Step Command
 readBody code l s =
     bind (readIdm (l .idm) s) λ idm s₁.
-    bind (readLead (l .lead) s₁) λ selector s₂.
+    bind (readSelector (l .selector) s₁) λ selector s₂.
     bind (readCodes 9 10 (l .first) s₂) λ first s₃.
     bind (readCodes 11 12 (l .second) s₃) λ second s₄.
     bind (readElements (ifCodes (l .first) 11 9) (ifCodes (l .first) 12 10) (l .elements) s₄) λ elements s₅.

@@ -1,19 +1,20 @@
--- The writer's test, part by part: each value has the range of its part, and a part that the layout lacks is zero or empty.
--- It need not be believed: Demand3.antt's `UnwritableExactly` says what it tells, in terms of reading alone.
+-- What the writer writes, by a test on the command, part by part: each value has the range of its part, and a part that the layout lacks is zero or empty.
+-- This need not be believed: the statements of Demand3.antt on `written` say what it is, in terms of reading and of `frameOf` and `secureOf`.
 -- Assumes nothing.
 use Prim.Native.Nat.{ℕ, _*_, _-_}
-use mathlib.Core.Bool.{Bool, true, false}
+use mathlib.Core.Bool.{Bool, true, false, cond}
+use mathlib.Core.Option.{Option, none, some}
 use mathlib.Core.List.{List, [], _∷_}
 use lib.ListN.{length, drop}
 use lib.Dec.{ltb, leb, eqb}
 use Rattle.felica_format.specs.declared.classes.Class.{Class}
 use Rattle.felica_format.specs.declared.classes.Class.the-variants.{Plain, Secure, Unknown}
 use Rattle.felica_format.specs.Basic.{_and_, zeros, allBelow, isOneOf}
-use Rattle.felica_format.specs.Command.{Fixed, Command, Element, elementsOf, fixedOf}
-use Rattle.felica_format.specs.Layout.{Lead, noLead, typeByte, anyByte, Codes, noCodes, _to_, Ending, bytes, word, words, reserved}
+use Rattle.felica_format.specs.Command.{EndFields, Command, Element, elementsOf, endFieldsOf}
+use Rattle.felica_format.specs.Layout.{Selector, noSelector, typeByte, anyByte, Codes, noCodes, _to_, Ending, bytes, word, words, reserved}
 use Rattle.felica_format.specs.Layout.{polling, parameter, Behind, nothing, ignoredBytes, aPackage, Layout, classOf, layoutOf}
 use Rattle.felica_format.specs.Read.{timeSlots}
-use Rattle.felica_format.specs.Write.{frameOf}
+use Rattle.felica_format.specs.Write.{frameOf, secureOf}
 
 abbrev pub sameList : List ℕ → List ℕ → Bool
 sameList [] [] = true
@@ -33,10 +34,10 @@ unfoldable pub idmOk : Bool → List ℕ → Bool
 idmOk false idm = sameList idm (zeros 8)
 idmOk true idm = areBytes 8 idm
 
-unfoldable pub leadOk : Lead → ℕ → Bool
-leadOk noLead b = eqb b 0
-leadOk typeByte b = leb b 1
-leadOk anyByte b = ltb b 256
+unfoldable pub selectorOk : Selector → ℕ → Bool
+selectorOk noSelector b = eqb b 0
+selectorOk typeByte b = leb b 1
+selectorOk anyByte b = ltb b 256
 
 unfoldable pub codesOk : Codes → List ℕ → Bool
 codesOk noCodes ns = isEmpty ns
@@ -61,7 +62,8 @@ unfoldable pub dataOk : Bool → ℕ → List ℕ → Bool
 dataOk false m bs = isEmpty bs
 dataOk true m bs = areBytes (16 * m) bs
 
--- The ranges of the fixed fields: number, index and option below a bound, choice one of a list, and a block whose bytes behind the first `filled` are 00.
+-- The ranges of the fixed fields: number, index and option below a bound, choice one of a list, and a challenge
+-- whose bytes behind the first `filled` are 00.
 pub record Ranges : Type 0 where
   pub numbers : ℕ
   pub indices : ℕ
@@ -81,14 +83,14 @@ rangesOf reserved = ranges 1 1 1 (0 ∷ []) 0
 rangesOf polling = ranges 65536 1 3 timeSlots 0
 rangesOf parameter = ranges 1 1 2 (0 ∷ 1 ∷ []) 0
 
-unfoldable pub fixedOk : Ranges → Fixed → Bool
-fixedOk r f =
+unfoldable pub endFieldsOk : Ranges → EndFields → Bool
+endFieldsOk r f =
     ltb (f .number) (r .numbers)
     and ltb (f .index) (r .indices)
     and ltb (f .option) (r .options)
     and isOneOf (r .choices) (f .choice)
-    and areBytes 16 (f .block)
-    and sameList (drop (r .filled) (f .block)) (zeros (16 - r .filled))
+    and areBytes 16 (f .challenge)
+    and sameList (drop (r .filled) (f .challenge)) (zeros (16 - r .filled))
 
 unfoldable pub packageOk : Behind → List ℕ → Bool
 packageOk nothing bs = isEmpty bs
@@ -98,13 +100,13 @@ packageOk aPackage bs = allBelow 256 bs
 unfoldable pub bodyOk : Layout → Command → Bool
 bodyOk l c =
     idmOk (l .idm) (c .idm)
-    and leadOk (l .lead) (c .selector)
+    and selectorOk (l .selector) (c .selector)
     and codesOk (l .first) (c .first)
     and codesOk (l .second) (c .second)
     and oneLength c
     and elementsOk (l .elements) (elementsOf c)
     and dataOk (l .blockData) (length (elementsOf c)) (c .blockData)
-    and fixedOk (rangesOf (l .ending)) (fixedOf c)
+    and endFieldsOk (rangesOf (l .ending)) (endFieldsOf c)
     and packageOk (l .behind) (c .issuePackage)
 
 -- a plain command must also fit a frame of 255 bytes
@@ -115,3 +117,13 @@ fitsClass Unknown c = false
 
 unfoldable pub writable : Command → Bool
 writable c = bodyOk (layoutOf (c .code)) c and fitsClass (classOf (c .code)) c
+
+-- "The writer makes a frame of a plain command and a payload of a secure one"
+abbrev pub shortest : Class → Command → List ℕ
+shortest Plain c = frameOf [] c
+shortest Secure c = secureOf [] c
+shortest Unknown c = []
+
+-- what the writer writes; none where the command is unwritable
+unfoldable pub written : Command → Option (List ℕ)
+written c = cond (writable c) (some (shortest (classOf (c .code)) c)) none

@@ -6,8 +6,8 @@ use mathlib.Core.List.{List, [], _∷_, _++_}
 use lib.ListN.{length, take}
 use lib.Dec.{ltb}
 use Rattle.felica_format.specs.Basic.{_and_, wordBytes, zeros}
-use Rattle.felica_format.specs.Command.{Fixed, Command, Element, elementsOf, fixedOf}
-use Rattle.felica_format.specs.Layout.{Lead, noLead, typeByte, anyByte, Codes, noCodes, _to_, Ending, bytes, word, words, reserved}
+use Rattle.felica_format.specs.Command.{EndFields, Command, Element, elementsOf, endFieldsOf}
+use Rattle.felica_format.specs.Layout.{Selector, noSelector, typeByte, anyByte, Codes, noCodes, _to_, Ending, bytes, word, words, reserved}
 use Rattle.felica_format.specs.Layout.{polling, parameter, Behind, nothing, ignoredBytes, aPackage, Layout, layoutOf}
 
 -- Of each element whether it is to be long; past the end of the list all are short. So [] is the all-short choice.
@@ -18,10 +18,10 @@ unfoldable pub idmBytes : Bool → List ℕ → List ℕ
 idmBytes false idm = []
 idmBytes true idm = idm
 
-unfoldable pub leadBytes : Lead → ℕ → List ℕ
-leadBytes noLead b = []
-leadBytes typeByte b = b ∷ []
-leadBytes anyByte b = b ∷ []
+unfoldable pub selectorBytes : Selector → ℕ → List ℕ
+selectorBytes noSelector b = []
+selectorBytes typeByte b = b ∷ []
+selectorBytes anyByte b = b ∷ []
 
 unfoldable pub wordsBytes : List ℕ → List ℕ
 wordsBytes [] = []
@@ -57,8 +57,8 @@ unfoldable pub dataBytes : Bool → List ℕ → List ℕ
 dataBytes false bs = []
 dataBytes true bs = bs
 
-unfoldable pub endingBytes : Ending → Fixed → List ℕ
-endingBytes (bytes n) f = take n (f .block)
+unfoldable pub endingBytes : Ending → EndFields → List ℕ
+endingBytes (bytes n) f = take n (f .challenge)
 endingBytes word f = wordBytes (f .number)
 endingBytes words f = wordBytes (f .number) ++ wordBytes (f .index)
 endingBytes reserved f = zeros 2
@@ -73,12 +73,12 @@ packageBytes aPackage bs = bs
 unfoldable pub bodyBytes : Layout → Forms → Command → List ℕ
 bodyBytes l forms c =
     idmBytes (l .idm) (c .idm)
-    ++ (leadBytes (l .lead) (c .selector)
+    ++ (selectorBytes (l .selector) (c .selector)
     ++ (codesBytes (l .first) (c .first)
     ++ (codesBytes (l .second) (c .second)
     ++ (elementsBytes (l .elements) forms (elementsOf c)
     ++ (dataBytes (l .blockData) (c .blockData)
-    ++ (endingBytes (l .ending) (fixedOf c)
+    ++ (endingBytes (l .ending) (endFieldsOf c)
     ++ packageBytes (l .behind) (c .issuePackage)))))))
 
 -- "A plain choice begins with the frame's size as length byte and the code byte"

@@ -24,11 +24,6 @@ pub const MAX_NODE_CODES: u8 = 0x20;
 // The same where node properties are asked for.
 pub const MAX_NODE_PROPERTY_CODES: u8 = 0x10;
 
-// The Rust writes this least count where it is used.
-pub const MIN_BLOCK_COUNT: u8 = 1;
-
-pub const MAX_BLOCK_COUNT: u8 = 0xFF;
-
 pub const POLLING_COMMAND_CODE: u8 = 0x00;
 
 pub const REQUEST_SERVICE_COMMAND_CODE: u8 = 0x02;
@@ -156,10 +151,15 @@ const BOUNDS: [Bounds; 25] = [
     NO_CODES, // 3A
     NO_CODES, // 3C
     NO_CODES, // 3E
-    NODE_CODES, // 40
+    SERVICE_CODES, // 40
     NO_CODES, // 42
     NO_CODES, // 70
 ];
+
+// The bounds of a block count, which all block lists share. The Rust writes the least one where it is used.
+pub const MIN_BLOCK_COUNT: u8 = 1;
+
+pub const MAX_BLOCK_COUNT: u8 = 0xFF;
 
 // A row of the table, and no codes from 25 up. A caller names its row by a literal, so that the table folds away.
 pub fn bounds_at(row: usize) -> Bounds
