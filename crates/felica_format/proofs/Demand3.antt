@@ -333,4 +333,4 @@ two-payloads c s t gs gt =
     )
 
 pub one-form-from-256 : OneFormFrom256
-one-form-from-256 long e h = by-form (λ (w : List ℕ). w ≡ longBytes e) long e (λ below. absurd (omega arith)) refl
+one-form-from-256 long e h = by-form (λ (w : List ℕ). w ≡ longBytes e) long e (λ below. absurd (omega arith)) (λ why. refl)

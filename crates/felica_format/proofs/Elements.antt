@@ -4,11 +4,11 @@ use Prim.Native.Nat.{ℕ, zero, suc, _+_, _*_, _/_, _%_, _≤_, _<_}
 use native.Mathlib.Omega.{arith}
 use mathlib.Core.Path.{_≡_, refl, ap, _∙_}
 use mathlib.Core.Logic.{_⊎_, inl, inr}
-use mathlib.Core.Bool.{Bool, true, false, not, cond}
+use mathlib.Core.Bool.{Bool, true, false, not, cond, true≢false}
 use mathlib.Core.List.{List, [], _∷_, _++_, append-assoc}
 use lib.ListN.{length, length-append}
 use lib.Dec.{ltb, eqb}
-use borrow.Author.Tests.{ltb-true, ltb-false, eqb-true, lt-ltb, eq-eqb}
+use borrow.Author.Tests.{ltb-true, ltb-false, eqb-true, eq-eqb}
 use Rattle.felica_format.specs.Basic.{_and_, Bytes, taken, bind}
 use Rattle.felica_format.specs.Command.{Element}
 use Rattle.felica_format.specs.Read.{elementOf, readShort, readLong, readElement, readEach, readElements}
@@ -65,26 +65,23 @@ module _ (e : Element) (ok : elementOk e ≡ true) where
       let m = mode-small in
       and-both (omega tests) (and-both (omega tests) (and-both (omega tests) refl))
 
--- a number below 256 that is not to be long is short
-short-form : (e : Element) → e .number < 256 → elementBytes false e ≡ shortBytes e
+-- The two forms of an element: short only below 256, and long only where that is chosen or the number is from 256 up.
+pub by-form : (P : List ℕ → Type 0) (long : Bool) (e : Element)
+    → (e .number < 256 → P (shortBytes e)) → ((long ≡ false → 256 ≤ e .number) → P (longBytes e)) → P (elementBytes long e)
 unfolding elementBytes _and_
-short-form e h = ap (λ (b : Bool). cond b (shortBytes e) (longBytes e)) (lt-ltb _ _ h)
-
--- what holds of both forms of an element
-pub by-form : (P : List ℕ → Type 0) (long : Bool) (e : Element) → (e .number < 256 → P (shortBytes e)) → P (longBytes e) → P (elementBytes long e)
-unfolding elementBytes _and_
-by-form P long e short other = go (not long) _ (λ h. omega tests)
+by-form P long e short other = go long _ (λ h. omega tests) (λ h. omega tests) other
   where
-    go : (a b : Bool) → (b ≡ true → e .number < 256) → P (cond (a and b) (shortBytes e) (longBytes e))
-    go true true below = short (below refl)
-    go true false below = other
-    go false b below = other
+    go : (long b : Bool) → (b ≡ true → e .number < 256) → (b ≡ false → 256 ≤ e .number) → ((long ≡ false → 256 ≤ e .number) → P (longBytes e))
+        → P (cond (not long and b) (shortBytes e) (longBytes e))
+    go false true below above other = short (below refl)
+    go false false below above other = other (λ q. above refl)
+    go true b below above other = other (λ q. absurd (true≢false q))
 
 element-back : (long : Bool) (e : Element) (rest : List ℕ) → elementOk e ≡ true → readElement (elementBytes long e ++ rest) ≡ taken e rest
-element-back long e rest ok = by-form (λ (w : List ℕ). readElement (w ++ rest) ≡ taken e rest) long e (λ h. short-back e ok h rest) (long-back e ok rest)
+element-back long e rest ok = by-form (λ (w : List ℕ). readElement (w ++ rest) ≡ taken e rest) long e (λ h. short-back e ok h rest) (λ why. long-back e ok rest)
 
 element-small : (long : Bool) (e : Element) → elementOk e ≡ true → Bytes (elementBytes long e)
-element-small long e ok = by-form Bytes long e (short-small e ok) (long-small e ok)
+element-small long e ok = by-form Bytes long e (short-small e ok) (λ why. long-small e ok)
 
 -- what was read as an element is one of its forms
 Form : List ℕ → Element → List ℕ → Type 0
@@ -114,7 +111,9 @@ short-only head (a ∷ s) e rest l h small r =
     let p : ltb (head % 16) 16 ≡ true = omega tests in
     let m : ltb (head / 16 % 8) 8 ≡ true = omega tests in
     let first : 128 + (16 * (head / 16 % 8) + head % 16) ≡ head = omega arith in
-    let is : head ∷ a ∷ s ≡ elementBytes false (elementOf head a) ++ s = rw (short-form (elementOf head a) ha, first) in
+    let short : head ∷ a ∷ s ≡ shortBytes (elementOf head a) ++ s = rw first in
+    let is : head ∷ a ∷ s ≡ elementBytes false (elementOf head a) ++ s =
+    by-form (λ (w : List ℕ). head ∷ a ∷ s ≡ w ++ s) false (elementOf head a) (λ h. short) (λ why. let from = why refl in absurd (omega arith)) in
     (false, rw (← taken-value r) (and-both n (and-both p m)), rw (← taken-value r, ← taken-rest r) is)
 
 element-only : (s : List ℕ) (e : Element) (rest : List ℕ) → Bytes s → readElement s ≡ taken e rest → Form s e rest
@@ -206,7 +205,7 @@ append-longer a a′ b b′ (inr p) (inr q) = inr (simp length-append (omega ari
 element-longer : (long : Bool) (e : Element) → SameOrLonger (elementBytes long e) (elementBytes false e)
 unfolding elementBytes _and_ shortBytes longBytes
 element-longer false e = inl refl
-element-longer true e = by-form (SameOrLonger (longBytes e)) false e (λ h. inr (omega arith)) (inl refl)
+element-longer true e = by-form (SameOrLonger (longBytes e)) false e (λ h. inr (omega arith)) (λ why. inl refl)
 
 each-longer : (forms : Forms) (es : List Element) → SameOrLonger (eachBytes forms es) (eachBytes [] es)
 unfolding eachBytes
