@@ -131,6 +131,7 @@ tooLong aPackage size n = false
 unfoldable pub readEnding : Ending → Behind → List ℕ → Step EndFields
 readEnding e b s = refuseIf (ltb (length s) (sizeOf e)) 7 (refuseIf (tooLong b (sizeOf e) (length s)) 8 (readValues e s))
 
+-- "A package is the whole tail, which may be empty."
 unfoldable pub readPackage : Behind → List ℕ → Step (List ℕ)
 readPackage nothing s = taken [] s
 readPackage ignoredBytes s = taken [] s
@@ -169,6 +170,7 @@ readPlainAs Plain code s = answerOf code (readBody code (layoutOf code) s)
 readPlainAs Secure code s = refused 4 (some code)
 readPlainAs Unknown code s = refused 5 (some code)
 
+-- "A plain code there is unsupported."
 abbrev pub readSecureAs : Class → ℕ → List ℕ → Answer
 readSecureAs Plain code s = refused 5 (some code)
 readSecureAs Secure code s = answerOf code (readBody code (layoutOf code) s)

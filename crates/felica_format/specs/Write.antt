@@ -14,6 +14,7 @@ use Rattle.felica_format.specs.Layout.{polling, parameter, Behind, nothi
 abbrev pub Forms : Type 0
 Forms = List Bool
 
+-- each part as its layout has it, and nothing where the layout lacks it
 unfoldable pub idmBytes : Bool → List ℕ → List ℕ
 idmBytes false idm = []
 idmBytes true idm = idm
@@ -23,6 +24,7 @@ selectorBytes noSelector b = []
 selectorBytes typeByte b = b ∷ []
 selectorBytes anyByte b = b ∷ []
 
+-- '"n codes" is a count byte and then n two-byte codes.'
 unfoldable pub wordsBytes : List ℕ → List ℕ
 wordsBytes [] = []
 wordsBytes (n ∷ ns) = wordBytes n ++ wordsBytes ns
@@ -31,16 +33,18 @@ unfoldable pub codesBytes : Codes → List ℕ → List ℕ
 codesBytes noCodes ns = []
 codesBytes (least to greatest) ns = length ns ∷ wordsBytes ns
 
--- access mode and place in one byte; bit 7 is set where the block number is short
+-- "An element's first byte holds bits 6 to 4 the access mode, bits 3 to 0 the place in the service list"
 abbrev pub headOf : Element → ℕ
 headOf e = 16 * e .mode + e .place
 
+-- "Bit 7 set: one byte of block number follows. Bit 7 clear: two bytes."
 unfoldable pub shortBytes : Element → List ℕ
 shortBytes e = (128 + headOf e) ∷ e .number ∷ []
 
 unfoldable pub longBytes : Element → List ℕ
 longBytes e = headOf e ∷ wordBytes (e .number)
 
+-- "each block number below 256 short or long, every other long"
 unfoldable pub elementBytes : Bool → Element → List ℕ
 elementBytes long e = cond (not long and ltb (e .number) 256) (shortBytes e) (longBytes e)
 
@@ -49,6 +53,7 @@ eachBytes forms [] = []
 eachBytes [] (e ∷ es) = elementBytes false e ++ eachBytes [] es
 eachBytes (long ∷ forms) (e ∷ es) = elementBytes long e ++ eachBytes forms es
 
+-- the count m and m elements
 unfoldable pub elementsBytes : Bool → Forms → List Element → List ℕ
 elementsBytes false forms es = []
 elementsBytes true forms es = length es ∷ eachBytes forms es
@@ -57,6 +62,7 @@ unfoldable pub dataBytes : Bool → List ℕ → List ℕ
 dataBytes false bs = []
 dataBytes true bs = bs
 
+-- low byte first, "Polling's system code alone the high byte first"; reserved bytes are 00
 unfoldable pub endingBytes : Ending → EndFields → List ℕ
 endingBytes (bytes n) f = take n (f .challenge)
 endingBytes word f = wordBytes (f .number)
@@ -65,6 +71,7 @@ endingBytes reserved f = zeros 2
 endingBytes polling f = f .number / 256 ∷ f .number % 256 ∷ f .option ∷ f .choice ∷ []
 endingBytes parameter f = zeros 4 ++ (f .option ∷ f .choice ∷ zeros 2)
 
+-- "A package is the whole tail"; the choice itself has no ignored bytes
 unfoldable pub packageBytes : Behind → List ℕ → List ℕ
 packageBytes nothing bs = []
 packageBytes ignoredBytes bs = []
