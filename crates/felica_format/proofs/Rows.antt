@@ -3,7 +3,7 @@
 use Prim.Native.Nat.{ℕ, _<_}
 use mathlib.Core.Path.{_≡_, refl, sym, ap, _∙_, subst}
 use mathlib.Core.Logic.{_⊎_, inl, inr}
-use mathlib.Core.Bool.{Bool, true, false, cond, _||_, true≢false}
+use mathlib.Core.Bool.{Bool, true, false, not, cond, _||_, true≢false}
 use mathlib.Core.List.{List, [], _∷_}
 use lib.Dec.{ltb, leb, eqb}
 use borrow.Author.Tests.{ltb-true, leb-true, eqb-true}
@@ -110,52 +110,48 @@ plain-shares = refl
 pub second-bounds : (code : ℕ) → classOf code ≡ Plain → (layoutOf code .second ≡ noCodes) ⊎ (layoutOf code .second ≡ layoutOf code .first)
 second-bounds code e = shares-bounds (layoutOf code .second) (layoutOf code .first) (plain-row (λ code l. shares (l .second) (l .first)) plain-shares code e)
 
--- nothing stands behind a plain body
-closed : Behind → Bool
-closed nothing = true
-closed ignoredBytes = false
-closed aPackage = false
+-- bytes are ignored behind a body exactly where that is expected
+ignoresAs : Behind → Bool → Bool
+ignoresAs nothing expected = not expected
+ignoresAs ignoredBytes expected = expected
+ignoresAs aPackage expected = not expected
 
-plain-closed : everyRow (λ code l. closed (l .behind)) plainRows ≡ true
-unfolding everyRow closed plainRows _and_
-plain-closed = refl
+-- no plain body ignores bytes
+plain-ignores : everyRow (λ code l. ignoresAs (l .behind) false) plainRows ≡ true
+unfolding everyRow ignoresAs plainRows _and_
+plain-ignores = refl
 
-closed-left : (b : Behind) (rest : List ℕ) → closed b ≡ true → Left b rest → rest ≡ []
-unfolding closed Left
-closed-left nothing rest h left = left
-closed-left ignoredBytes rest h left = absurd (true≢false (sym h))
-closed-left aPackage rest h left = absurd (true≢false (sym h))
+none-left : (b : Behind) (rest : List ℕ) → ignoresAs b false ≡ true → Left b rest → rest ≡ []
+unfolding ignoresAs Left
+none-left nothing rest h left = left
+none-left ignoredBytes rest h left = absurd (true≢false (sym h))
+none-left aPackage rest h left = left
 
 pub plain-left : (code : ℕ) (rest : List ℕ) → classOf code ≡ Plain → Left (layoutOf code .behind) rest → rest ≡ []
-plain-left code rest e left = closed-left (layoutOf code .behind) rest (plain-row (λ code l. closed (l .behind)) plain-closed code e) left
+plain-left code rest e left = none-left (layoutOf code .behind) rest (plain-row (λ code l. ignoresAs (l .behind) false) plain-ignores code e) left
 
--- bytes are ignored behind 14, 16, 44, 46 and behind no other secure body
-asListed : Behind → Bool → Bool
-asListed nothing listed = cond listed false true
-asListed ignoredBytes listed = listed
-asListed aPackage listed = cond listed false true
-
+-- of the secure bodies 14, 16, 44 and 46 do, and no other
 tail : ℕ → Layout → Bool
-tail code l = asListed (l .behind) (isOneOf secureReadsAndWrites code)
+tail code l = ignoresAs (l .behind) (isOneOf secureReadsAndWrites code)
 
 secure-tail : everyRow tail secureRows ≡ true
-unfolding everyRow tail asListed secureRows _and_
+unfolding everyRow tail ignoresAs secureRows _and_
 secure-tail = refl
 
-left-follows : (b : Behind) (code : ℕ) (rest : List ℕ) → asListed b (isOneOf secureReadsAndWrites code) ≡ true → Left b rest → MayFollow code rest
-unfolding asListed Left
+left-follows : (b : Behind) (code : ℕ) (rest : List ℕ) → ignoresAs b (isOneOf secureReadsAndWrites code) ≡ true → Left b rest → MayFollow code rest
+unfolding ignoresAs Left
 left-follows nothing code rest h left = inl left
 left-follows ignoredBytes code rest h left = inr (h, left)
 left-follows aPackage code rest h left = inl left
 
-follows-left : (b : Behind) (code : ℕ) (rest : List ℕ) → asListed b (isOneOf secureReadsAndWrites code) ≡ true → MayFollow code rest → Left b rest
-unfolding asListed Left
+follows-left : (b : Behind) (code : ℕ) (rest : List ℕ) → ignoresAs b (isOneOf secureReadsAndWrites code) ≡ true → MayFollow code rest → Left b rest
+unfolding ignoresAs Left
 follows-left nothing code rest h (inl p) = p
-follows-left nothing code rest h (inr p) = absurd (true≢false (sym h ∙ ap (λ (listed : Bool). cond listed false true) (p .0)))
+follows-left nothing code rest h (inr p) = absurd (true≢false (sym h ∙ ap not (p .0)))
 follows-left ignoredBytes code rest h (inl p) = rw p
 follows-left ignoredBytes code rest h (inr p) = p .1
 follows-left aPackage code rest h (inl p) = p
-follows-left aPackage code rest h (inr p) = absurd (true≢false (sym h ∙ ap (λ (listed : Bool). cond listed false true) (p .0)))
+follows-left aPackage code rest h (inr p) = absurd (true≢false (sym h ∙ ap not (p .0)))
 
 pub secure-left : (code : ℕ) (rest : List ℕ) → classOf code ≡ Secure → Left (layoutOf code .behind) rest → MayFollow code rest
 unfolding tail
