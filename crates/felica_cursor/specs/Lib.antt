@@ -1,0 +1,3 @@
+-- What the answers of the steps say.
+pub mod Answers
+pub mod Steps

@@ -1,0 +1,2 @@
+-- The bodies of codes that share a layout.
+pub mod Bodies

@@ -1,0 +1,129 @@
+// The port of command/parse.rs: a frame, a payload, and a secure code with its payload.
+ghost use mathlib.Core.Path.{_≡_};
+ghost use mathlib.Core.List.{List};
+ghost use Prim.Native.Nat.{ℕ};
+ghost use lib.ListN.{drop};
+ghost use Rattle.felica_format.specs.Layout.{classOf};
+ghost use Rattle.felica_format.specs.Read.{readPayload, readFrame, readSecure, readPlainAs};
+ghost use Rattle.felica_command.specs.Meaning.{meaning, Canonical};
+ghost use Rattle.felica_command.specs.Places.{placesOf, readPlaces, Account};
+ghost use Rattle.felica_parse.specs.Bodies.{NotPlain};
+
+mod kinds;
+mod plain;
+mod secure;
+
+use felica_command::command::Parsed;
+use felica_format::classes::Class;
+use felica_format::classes::class_of;
+use felica_format::constants;
+use felica_format::error;
+use plain::parse_authentication1;
+use plain::parse_authentication1_v2;
+use plain::parse_authentication2;
+use plain::parse_authentication2_v2;
+use plain::parse_code_list;
+use plain::parse_get_container_id;
+use plain::parse_get_container_property;
+use plain::parse_get_node_property;
+use plain::parse_idm_alone;
+use plain::parse_idm_and_reserved;
+use plain::parse_idm_and_word;
+use plain::parse_polling;
+use plain::parse_read_without_encryption;
+use plain::parse_request_code_list;
+use plain::parse_set_parameter;
+use plain::parse_write_without_encryption;
+use secure::parse_change_system_block;
+use secure::parse_read;
+use secure::parse_register;
+use secure::parse_register_issue_id;
+use secure::parse_write;
+
+// A frame: the length byte, which counts itself, and the payload. The places of the parts count from the payload's first byte, the one behind the length byte.
+pub fn parse_frame(frame: &[u8]) -> Parsed
+    ensures { λ r. ⌜ (meaning (drop 1 (now (frame .entry))) r ≡ readFrame (now (frame .entry))) × (placesOf r ≡ readPlaces 1 (drop 1 (now (frame .entry))) (readFrame (now (frame .entry)))) × Canonical r ⌝ }
+{
+    if frame.len() == 0 {
+        return Parsed::refused_without_code(error::EMPTY_FRAME);
+    }
+    let expected_len = frame[0] as usize;
+    if expected_len != frame.len() {
+        return Parsed::refused_without_code(error::LENGTH_BYTE_WRONG);
+    }
+    parse_payload(&frame[1..])
+}
+
+// A payload: the code byte and the body of its command.
+pub fn parse_payload(payload: &[u8]) -> Parsed
+    ensures { λ r. ⌜ (meaning (now (payload .entry)) r ≡ readPayload (now (payload .entry))) × (placesOf r ≡ readPlaces 1 (now (payload .entry)) (readPayload (now (payload .entry)))) × Canonical r ⌝ }
+{
+    if payload.len() == 0 {
+        return Parsed::refused_without_code(error::EMPTY_PAYLOAD);
+    }
+    let command_code = payload[0];
+    match command_code {
+        constants::POLLING_COMMAND_CODE => parse_polling(payload),
+        constants::REQUEST_SERVICE_COMMAND_CODE
+        | constants::REQUEST_BLOCK_INFORMATION_COMMAND_CODE
+        | constants::REQUEST_BLOCK_INFORMATION_EX_COMMAND_CODE
+        | constants::REQUEST_SERVICE_V2_COMMAND_CODE => parse_code_list(payload, command_code),
+        constants::REQUEST_RESPONSE_COMMAND_CODE
+        | constants::REQUEST_SYSTEM_CODE_COMMAND_CODE
+        | constants::REQUEST_PRODUCT_INFORMATION_COMMAND_CODE => parse_idm_alone(
+            payload,
+            command_code,
+        ),
+        constants::READ_WITHOUT_ENCRYPTION_COMMAND_CODE => parse_read_without_encryption(payload),
+        constants::WRITE_WITHOUT_ENCRYPTION_COMMAND_CODE => parse_write_without_encryption(payload),
+        constants::SEARCH_SERVICE_CODE_COMMAND_CODE
+        | constants::GET_AREA_INFORMATION_COMMAND_CODE => parse_idm_and_word(payload, command_code),
+        constants::AUTHENTICATION1_COMMAND_CODE => parse_authentication1(payload),
+        constants::AUTHENTICATION2_COMMAND_CODE => parse_authentication2(payload),
+        constants::REQUEST_CODE_LIST_COMMAND_CODE => parse_request_code_list(payload),
+        constants::SET_PARAMETER_COMMAND_CODE => parse_set_parameter(payload),
+        constants::GET_CONTAINER_ISSUE_INFORMATION_COMMAND_CODE
+        | constants::GET_SYSTEM_STATUS_COMMAND_CODE
+        | constants::REQUEST_SPECIFICATION_VERSION_COMMAND_CODE
+        | constants::RESET_MODE_COMMAND_CODE => parse_idm_and_reserved(payload, command_code),
+        constants::GET_NODE_PROPERTY_COMMAND_CODE => parse_get_node_property(payload),
+        constants::GET_CONTAINER_PROPERTY_COMMAND_CODE => parse_get_container_property(payload),
+        constants::AUTHENTICATION1_V2_COMMAND_CODE => parse_authentication1_v2(payload),
+        constants::AUTHENTICATION2_V2_COMMAND_CODE => parse_authentication2_v2(payload),
+        constants::GET_CONTAINER_ID_COMMAND_CODE => parse_get_container_id(payload),
+        _ => refuse_code(command_code),
+    }
+}
+
+// A code that is no plain one, in a plain payload.
+fn refuse_code(command_code: u8) -> Parsed
+    requires { ⌜ NotPlain «command_code» ⌝ }
+    ensures { λ r. ⌜ ((payload : List ℕ) → Account payload 1 (readPlainAs (classOf «command_code») «command_code» (drop 1 payload)) r) ⌝ }
+{
+    let class = class_of(command_code);
+    match class {
+        Class::Secure => Parsed::refused(error::SECURE_CODE, command_code),
+        _ => Parsed::refused(error::UNKNOWN_CODE, command_code),
+    }
+}
+
+// The decrypted payload of a secure code. A plain code is unknown here.
+pub fn parse_secure_payload(command_code: u8, payload: &[u8]) -> Parsed
+    ensures { λ r. ⌜ (meaning (now (payload .entry)) r ≡ readSecure «command_code» (now (payload .entry))) × (placesOf r ≡ readPlaces 0 (now (payload .entry)) (readSecure «command_code» (now (payload .entry)))) × Canonical r ⌝ }
+{
+    match command_code {
+        constants::READ_COMMAND_CODE | constants::READ_V2_COMMAND_CODE => parse_read(
+            payload,
+            command_code,
+        ),
+        constants::WRITE_COMMAND_CODE | constants::WRITE_V2_COMMAND_CODE => parse_write(
+            payload,
+            command_code,
+        ),
+        constants::REGISTER_ISSUE_ID_COMMAND_CODE => parse_register_issue_id(payload),
+        constants::REGISTER_AREA_COMMAND_CODE | constants::REGISTER_SERVICE_COMMAND_CODE =>
+            parse_register(payload, command_code),
+        constants::CHANGE_SYSTEM_BLOCK_COMMAND_CODE => parse_change_system_block(payload),
+        _ => Parsed::refused(error::UNKNOWN_CODE, command_code),
+    }
+}
