@@ -1,45 +1,47 @@
+-- `all_zero` meets its contract: those passed are 00.
+-- Assumes nothing.
+use borrow.Author.Needs.{needs}
+use mathlib.Core.Path.{_≡_, sym, _∙_}
+use Prim.Native.Nat.{_≤_, _+_, _-_}
+use native.Mathlib.Omega.{arith}
+use Rattle.felica_format.specs.Read.{zeroAt}
+use Rattle.felica_cursor.proofs.Laws.{zero-start, zero-more, zero-not}
 use Rattle.felica_cursor.proofs.endings.all_zero.Statement.{statement}
 use Rattle.felica_cursor.proofs.endings.all_zero.Tie as tie
-use Rattle.felica_cursor.proofs.endings.all_zero.Reads as reads
-use Rattle.felica_cursor.proofs.endings.all_zero.Lts as lts
 
 abbrev Inv-loop : tie.InvT-loop
-Inv-loop payload at count i₀ i = ?
+Inv-loop payload at count i₀ i = (i ≤ count) × (zeroAt count payload at ≡ zeroAt (count - i) payload (at + i))
 
 abbrev μ-loop : tie.MeasureT-loop
-μ-loop payload at count i₀ i = ?
+μ-loop payload at count i₀ i = count - i
 
--- src/endings.rt:43:5
 loop-holds : tie.Need-loop-holds Inv-loop μ-loop
-loop-holds c = ?
+loop-holds c = (omega arith, zero-start (c .args .payload .now) (c .args .at) (c .args .count))
 
--- src/endings.rt:44:20
 add-if1 : tie.Need-add-if1 Inv-loop μ-loop
-add-if1 c = ?
+add-if1 c = search needs
 
--- src/endings.rt:44:12
 shared-slice-read-if1 : tie.Need-shared-slice-read-if1 Inv-loop μ-loop
-shared-slice-read-if1 c = ?
+shared-slice-read-if1 c = search needs
 
--- src/endings.rt:45:13
 returns : tie.Need-returns Inv-loop μ-loop
-returns c = ?
+returns c =
+    let a = c .before .before .before .before .args in
+    sym (c .before .before .before .loop .inv .1 ∙ zero-not (a .payload .now) (a .at) (a .count) (c .before .before .before .loop .i) (omega arith) (c .if1 .taken))
 
--- src/endings.rt:47:9
 add-i : tie.Need-add-i Inv-loop μ-loop
-add-i c = ?
+add-i c = search needs
 
--- src/endings.rt:43:5
 loop-less : tie.Need-loop-less Inv-loop μ-loop
-loop-less c = ?
+loop-less c = search needs
 
--- src/endings.rt:43:5
 loop-again : tie.Need-loop-again Inv-loop μ-loop
-loop-again c = ?
+loop-again c =
+    let a = c .before .before .before .before .args in
+    (omega arith, c .before .before .before .loop .inv .1 ∙ zero-more (a .payload .now) (a .at) (a .count) (c .before .before .before .loop .i) (omega arith) (c .if1 .left))
 
--- src/endings.rt:38:1
 returns-2 : tie.Need-returns-2 Inv-loop μ-loop
-returns-2 c = ?
+returns-2 c = let e : c .before .before .args .count - c .before .loop .i ≡ 0 = omega arith in rw (c .before .loop .inv .1, e)
 
 pub all-zero-spec : {M : Type 1} → statement M
 all-zero-spec =

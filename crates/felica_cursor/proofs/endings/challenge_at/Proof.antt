@@ -1,45 +1,52 @@
+-- `challenge_at` meets its contract: the bytes passed are in place, zeros behind them.
+-- Assumes nothing.
+use borrow.Author.Needs.{needs}
+use mathlib.Core.Path.{_≡_, refl}
+use Prim.Native.Nat.{_≤_, _-_}
+use native.Mathlib.Nat.{zero-add}
+use native.Mathlib.Omega.{arith}
+use lib.ListN.{drop}
+use lib.Seq.{paste}
+use Rattle.felica_format.specs.Basic.{zeros}
+use Rattle.felica_cursor.proofs.Laws.{paste-more, drop-zeros}
 use Rattle.felica_cursor.proofs.endings.challenge_at.Statement.{statement}
 use Rattle.felica_cursor.proofs.endings.challenge_at.Tie as tie
-use Rattle.felica_cursor.proofs.endings.challenge_at.Reads as reads
-use Rattle.felica_cursor.proofs.endings.challenge_at.Lts as lts
 
 abbrev Inv-loop : tie.InvT-loop
-Inv-loop payload at count challenge₀ i₀ challenge i = ?
+Inv-loop payload at count challenge₀ i₀ challenge i = (i ≤ count) × (challenge ≡ paste (zeros 16) 0 (drop at payload) i)
 
 abbrev μ-loop : tie.MeasureT-loop
-μ-loop payload at count challenge₀ i₀ challenge i = ?
+μ-loop payload at count challenge₀ i₀ challenge i = count - i
 
--- src/endings.rt:59:5
 loop-holds : tie.Need-loop-holds Inv-loop μ-loop
-loop-holds c = ?
+loop-holds c = (omega arith, refl)
 
--- src/endings.rt:60:32
 add-challenge : tie.Need-add-challenge Inv-loop μ-loop
-add-challenge c = ?
+add-challenge c = search needs
 
--- src/endings.rt:60:24
 shared-slice-read-challenge : tie.Need-shared-slice-read-challenge Inv-loop μ-loop
-shared-slice-read-challenge c = ?
+shared-slice-read-challenge c = search needs
 
--- src/endings.rt:60:9
 array-write-challenge : tie.Need-array-write-challenge Inv-loop μ-loop
-array-write-challenge c = ?
+array-write-challenge c = search needs
 
--- src/endings.rt:61:9
 add-i : tie.Need-add-i Inv-loop μ-loop
-add-i c = ?
+add-i c = search needs
 
--- src/endings.rt:59:5
 loop-less : tie.Need-loop-less Inv-loop μ-loop
-loop-less c = ?
+loop-less c = search needs
 
--- src/endings.rt:59:5
 loop-again : tie.Need-loop-again Inv-loop μ-loop
-loop-again c = ?
+loop-again c =
+    let s = c .before .before .before .args .payload .now in
+    let at = c .before .before .before .args .at in
+    let i = c .before .before .loop .i in
+    (search needs, paste-more (zeros 16) s at (c .before .before .loop .challenge) i (omega arith) (omega arith) (c .before .before .loop .inv .1))
 
--- src/endings.rt:53:1
 returns : tie.Need-returns Inv-loop μ-loop
-returns c = ?
+returns c =
+    let e : c .before .loop .i ≡ c .before .before .args .count = omega arith in
+    rw (c .before .loop .inv .1, e, zero-add, drop-zeros (c .before .before .args .count) 16 (omega arith))
 
 pub challenge-at-spec : {M : Type 1} → statement M
 challenge-at-spec =
