@@ -2,11 +2,14 @@
 -- Assumes nothing.
 use Prim.Native.Nat.{ℕ, _<_}
 use native.Mathlib.Omega.{arith}
-use mathlib.Core.Path.{_≡_, refl, sym, _∙_}
+use mathlib.Core.Path.{_≡_, refl, sym, ap, _∙_}
 use mathlib.Core.Bool.{Bool, true, false, cond}
 use lib.Dec.{ltb, eqb}
 use borrow.Author.Tests.{eqb-true, eqb-false, lt-ltb, le-ltb}
+use Rattle.felica_command.specs.Types.{propertyOf, propertyIndex}
 use Rattle.felica_command.specs.Types.{nodePropertyTypeOf, nodePropertyByte, encryptionTypeOf, encryptionByte, packetTypeOf, packetByte}
+use Rattle.felica_command.specs.declared.types.ContainerProperty.{ContainerProperty}
+use Rattle.felica_command.specs.declared.types.ContainerProperty.the-variants.{Property1, Property2, Unknown}
 use Rattle.felica_command.specs.declared.types.NodePropertyType.{NodePropertyType}
 use Rattle.felica_command.specs.declared.types.NodePropertyType.the-variants.{ValueLimitedPurseService, MacCommunication}
 use Rattle.felica_command.specs.declared.types.NodePropertyByte.the-variants.{Defined as DefinedProperty, Undefined as UndefinedProperty}
@@ -69,3 +72,15 @@ pub packet-undefined : (b : ℕ) → packetTypeOf b ≡ UndefinedPacket → ltb 
 packet-undefined b =
     of-undefined DefinedPacket UndefinedPacket NodeCodeSize2 NodeCodeSize4 b
     (λ e. let z : _≡_ {A = ℕ} 0 1 = cc in omega arith) (λ e. let z : _≡_ {A = ℕ} 0 1 = cc in omega arith)
+
+-- the property of an index has that index
+pub property-index : (n : ℕ) → propertyIndex (propertyOf n) ≡ n
+property-index n = go (eqb n 0) (eqb n 1) refl refl
+  where
+    go : (p q : Bool) → eqb n 0 ≡ p → eqb n 1 ≡ q → propertyIndex (cond p Property1 (cond q Property2 (Unknown n))) ≡ n
+    go true q e f = sym (eqb-true n 0 e)
+    go false true e f = sym (eqb-true n 1 f)
+    go false false e f = refl
+
+pub property-canonical : (n : ℕ) (p : ContainerProperty) → p ≡ propertyOf n → p ≡ propertyOf (propertyIndex p)
+property-canonical n p e = e ∙ ap propertyOf (sym (ap propertyIndex e ∙ property-index n))
