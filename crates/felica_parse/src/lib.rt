@@ -103,7 +103,9 @@ fn refuse_code(command_code: u8) -> Parsed
     let class = class_of(command_code);
     match class {
         Class::Secure => Parsed::refused(error::SECURE_CODE, command_code),
-        _ => Parsed::refused(error::UNKNOWN_CODE, command_code),
+        Class::Unknown => Parsed::refused(error::UNKNOWN_CODE, command_code),
+        // The caller has taken every plain code.
+        Class::Plain => Parsed::refused(error::UNKNOWN_CODE, command_code),
     }
 }
 

@@ -1,23 +1,24 @@
+-- `code_list_kind` meets its contract.
+-- Assumes nothing.
+use mathlib.Core.Path.{_≡_}
+use mathlib.Core.Logic.{⊎-elim}
 use Rattle.felica_parse.proofs.kinds.code_list_kind.Statement.{statement}
 use Rattle.felica_parse.proofs.kinds.code_list_kind.Tie as tie
-use Rattle.felica_parse.proofs.kinds.code_list_kind.Reads as reads
-use Rattle.felica_parse.proofs.kinds.code_list_kind.Lts as lts
 
--- src/kinds.rt:11:1
 returns : tie.Need-returns
-returns c = ?
+returns c = rw (c .match .keys1)
 
--- src/kinds.rt:11:1
 returns-2 : tie.Need-returns-2
-returns-2 c = ?
+returns-2 c = rw (c .match .keys2)
 
--- src/kinds.rt:11:1
 returns-3 : tie.Need-returns-3
-returns-3 c = ?
+returns-3 c = rw (c .match .keys3)
 
--- src/kinds.rt:11:1
 returns-4 : tie.Need-returns-4
-returns-4 c = ?
+returns-4 c =
+    let last : c .before .args .command-code ≡ 0x32 =
+    ⊎-elim (λ e. absurd (c .match .rest .0 .0 .1 e)) (⊎-elim (λ e. absurd (c .match .rest .0 .1 e)) (⊎-elim (λ e. absurd (c .match .rest .1 e)) (λ e. e))) (c .before .pre) in
+    rw last
 
 pub code-list-kind-spec : {M : Type 1} → statement M
 code-list-kind-spec = tie.close (tie.spec returns returns-2 returns-3 returns-4)

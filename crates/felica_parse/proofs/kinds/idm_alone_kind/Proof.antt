@@ -1,19 +1,21 @@
+-- `idm_alone_kind` meets its contract.
+-- Assumes nothing.
+use mathlib.Core.Path.{_≡_}
+use mathlib.Core.Logic.{⊎-elim}
 use Rattle.felica_parse.proofs.kinds.idm_alone_kind.Statement.{statement}
 use Rattle.felica_parse.proofs.kinds.idm_alone_kind.Tie as tie
-use Rattle.felica_parse.proofs.kinds.idm_alone_kind.Reads as reads
-use Rattle.felica_parse.proofs.kinds.idm_alone_kind.Lts as lts
 
--- src/kinds.rt:29:1
 returns : tie.Need-returns
-returns c = ?
+returns c = rw (c .match .keys1)
 
--- src/kinds.rt:29:1
 returns-2 : tie.Need-returns-2
-returns-2 c = ?
+returns-2 c = rw (c .match .keys2)
 
--- src/kinds.rt:29:1
 returns-3 : tie.Need-returns-3
-returns-3 c = ?
+returns-3 c =
+    let last : c .before .args .command-code ≡ 0x3A =
+    ⊎-elim (λ e. absurd (c .match .rest .0 .1 e)) (⊎-elim (λ e. absurd (c .match .rest .1 e)) (λ e. e)) (c .before .pre) in
+    rw last
 
 pub idm-alone-kind-spec : {M : Type 1} → statement M
 idm-alone-kind-spec = tie.close (tie.spec returns returns-2 returns-3)
