@@ -1,3 +1,4 @@
 -- What the answers of the steps say.
 pub mod Answers
 pub mod Steps
+pub mod Entries

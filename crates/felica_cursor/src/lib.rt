@@ -2,3 +2,4 @@
 pub mod answers;
 pub mod cursor;
 pub mod endings;
+pub mod entries;
