@@ -1,6 +1,6 @@
 -- Where the parts of a command stand in its payload, by its layout: each behind what comes before it in field order.
 -- Assumes nothing.
-use Prim.Native.Nat.{ℕ, zero, suc, _+_, _*_}
+use Prim.Native.Nat.{ℕ, zero, suc, _+_, _*_, _≤_}
 use mathlib.Core.Path.{_≡_}
 use mathlib.Core.Bool.{Bool, true, false, cond}
 use mathlib.Core.List.{List}
@@ -9,7 +9,7 @@ use lib.Dec.{ltb}
 use Rattle.felica_format.specs.Command.{Command}
 use Rattle.felica_format.specs.Layout.{Selector, noSelector, typeByte, anyByte, Codes, noCodes, _to_, Behind, nothing, ignoredBytes, aPackage}
 use Rattle.felica_format.specs.Layout.{Layout, layoutOf}
-use Rattle.felica_format.specs.Read.{sizeOf, Answer as Reading, gives, refused}
+use Rattle.felica_format.specs.Read.{sizeOf, Answer as Reading, gives, refused, readPayload, readSecure}
 use Rattle.felica_command.specs.Meaning.{part, noPart, Fields, fieldsOf, meaning, Canonical}
 use Rattle.felica_command.specs.declared.command.Part.{Part}
 use Rattle.felica_command.specs.declared.command.Answer.{Answer}
@@ -117,3 +117,19 @@ readPlaces at s (refused n code) = noPlaces
 -- The complete account of a result r for the payload s, whose body begins at `at`, where the definitions say `reading`.
 abbrev pub Account : List ℕ → ℕ → Reading → Parsed → Type 0
 Account s at reading r = (meaning s r ≡ reading) × (placesOf r ≡ readPlaces at s reading) × Canonical r
+
+-- each part lies inside the payload s
+abbrev pub Inside : List ℕ → Places → Type 0
+Inside s q =
+    (q .first .start + 2 * q .first .count ≤ length s)
+    × (q .second .start + 2 * q .second .count ≤ length s)
+    × (q .elements .start + elementsSize (q .elements .count) (drop (q .elements .start) s) ≤ length s)
+    × (q .blockData .start + q .blockData .count ≤ length s)
+    × (q .issuePackage .start + q .issuePackage .count ≤ length s)
+
+-- the places that the definitions settle do (proofs/Inside.antt)
+abbrev pub PayloadInside : Type 0
+PayloadInside = (s : List ℕ) → Inside s (readPlaces 1 s (readPayload s))
+
+abbrev pub SecureInside : Type 0
+SecureInside = (code : ℕ) (s : List ℕ) → Inside s (readPlaces 0 s (readSecure code s))

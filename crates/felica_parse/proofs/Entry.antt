@@ -13,8 +13,9 @@ use Rattle.felica_format.specs.declared.classes.Class.{Class}
 use Rattle.felica_format.specs.declared.classes.Class.the-variants.{Plain, Secure, Unknown}
 use Rattle.felica_format.specs.Layout.{classOf, has, plainRows, secureRows, layoutOf}
 use Rattle.felica_format.specs.Read.{Answer as Reading, refused, readPayload, readFrame, readSecure, readPlainAs, readSecureAs, readBody, answerOf}
-use Rattle.felica_command.specs.Meaning.{refusal}
-use Rattle.felica_command.specs.Places.{Account}
+use Rattle.felica_command.specs.Meaning.{meaning, Canonical, refusal}
+use Rattle.felica_command.specs.Places.{placesOf, readPlaces, Account, Inside}
+use Rattle.felica_command.proofs.Inside.{none-inside, payload-inside, secure-inside}
 use Rattle.felica_command.specs.declared.command.Parsed.{Parsed}
 use Rattle.felica_parse.specs.Bodies.{BodyRead, CodeListCode, IdmAloneCode, WordCode, ReservedCode, ReadCode, WriteCode, RegisterCode}
 
@@ -23,6 +24,18 @@ pub refusal-account : (s : List ℕ) (at n : ℕ) (code : Option ℕ) (reading :
     → Account s at reading r
 refusal-account s at n none reading r e is = rw (e, is) (refl, refl, (refl, refl))
 refusal-account s at n (some code) reading r e is = rw (e, is) (refl, refl, (refl, refl))
+
+-- all that an entry promises
+abbrev pub Settled : List ℕ → ℕ → Reading → Parsed → Type 0
+Settled s at reading r = (meaning s r ≡ reading) × (placesOf r ≡ readPlaces at s reading) × Canonical r × Inside s (placesOf r)
+
+settled : (s : List ℕ) (at : ℕ) (reading : Reading) (r : Parsed) → Inside s (readPlaces at s reading) → Account s at reading r → Settled s at reading r
+settled s at reading r inside a = (a .0, a .1, a .2, subst (Inside s) (sym (a .1)) inside)
+
+pub refusal-settled : (s : List ℕ) (at n : ℕ) (code : Option ℕ) (reading : Reading) (r : Parsed) → r ≡ refusal n code → reading ≡ refused n code
+    → Settled s at reading r
+refusal-settled s at n code reading r e is =
+    settled s at reading r (subst (λ (x : Reading). Inside s (readPlaces at s x)) (sym is) (none-inside s)) (refusal-account s at n code reading r e is)
 
 -- a payload of no bytes; one that begins with a code
 pub payload-empty : (s : List ℕ) → length s ≡ 0 → readPayload s ≡ refused 3 none
@@ -35,15 +48,16 @@ unfolding readPayload
 payload-code [] h = absurd (h refl)
 payload-code (x ∷ xs) h = refl
 
-pub payload-account : (s : List ℕ) (code : ℕ) (r : Parsed) → (length s ≡ 0 → ⊥) → getD s 0 0 ≡ code
-    → Account s 1 (readPlainAs (classOf code) code (drop 1 s)) r → Account s 1 (readPayload s) r
-payload-account s code r some-bytes is h =
-    subst (λ (x : Reading). Account s 1 x r) (sym (payload-code s some-bytes ∙ ap (λ (x : ℕ). readPlainAs (classOf x) x (drop 1 s)) is)) h
+pub payload-settled : (s : List ℕ) (code : ℕ) (r : Parsed) → (length s ≡ 0 → ⊥) → getD s 0 0 ≡ code
+    → Account s 1 (readPlainAs (classOf code) code (drop 1 s)) r → Settled s 1 (readPayload s) r
+payload-settled s code r some-bytes is h =
+    settled s 1 (readPayload s) r (payload-inside s)
+    (subst (λ (x : Reading). Account s 1 x r) (sym (payload-code s some-bytes ∙ ap (λ (x : ℕ). readPlainAs (classOf x) x (drop 1 s)) is)) h)
 
-pub plain-account : (s : List ℕ) (code : ℕ) (r : Parsed) → (length s ≡ 0 → ⊥) → getD s 0 0 ≡ code → classOf code ≡ Plain → BodyRead s 1 code r
-    → Account s 1 (readPayload s) r
-plain-account s code r some-bytes is plain h =
-    payload-account s code r some-bytes is (subst (λ (k : Class). Account s 1 (readPlainAs k code (drop 1 s)) r) (sym plain) h)
+pub plain-settled : (s : List ℕ) (code : ℕ) (r : Parsed) → (length s ≡ 0 → ⊥) → getD s 0 0 ≡ code → classOf code ≡ Plain → BodyRead s 1 code r
+    → Settled s 1 (readPayload s) r
+plain-settled s code r some-bytes is plain h =
+    payload-settled s code r some-bytes is (subst (λ (k : Class). Account s 1 (readPlainAs k code (drop 1 s)) r) (sym plain) h)
 
 pub frame-empty : (s : List ℕ) → length s ≡ 0 → readFrame s ≡ refused 1 none
 unfolding readFrame
@@ -125,6 +139,7 @@ pub secure-refused : (code : ℕ) (s : List ℕ) → (classOf code ≡ Secure �
 unfolding readSecure
 secure-refused code s h = refused-unless-secure (classOf code) code s h
 
-pub secure-account : (s : List ℕ) (code : ℕ) (r : Parsed) → classOf code ≡ Secure → BodyRead s 0 code r → Account s 0 (readSecure code s) r
+pub secure-settled : (s : List ℕ) (code : ℕ) (r : Parsed) → classOf code ≡ Secure → BodyRead s 0 code r → Settled s 0 (readSecure code s) r
 unfolding readSecure
-secure-account s code r secure h = subst (λ (k : Class). Account s 0 (readSecureAs k code s) r) (sym secure) h
+secure-settled s code r secure h =
+    settled s 0 (readSecure code s) r (secure-inside code s) (subst (λ (k : Class). Account s 0 (readSecureAs k code s) r) (sym secure) h)

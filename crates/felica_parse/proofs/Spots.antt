@@ -1,26 +1,21 @@
 -- The part that a step names is the part that the layout names.
 -- Assumes nothing.
-use Prim.Native.Nat.{ℕ, zero, suc, _+_, _-_, _*_, _≤_}
+use Prim.Native.Nat.{ℕ, _+_, _*_, _≤_}
 use native.Mathlib.Omega.{arith}
-use mathlib.Core.Path.{_≡_, refl, sym, ap, _∙_}
+use mathlib.Core.Path.{_≡_, sym, ap, _∙_}
 use mathlib.Core.Bool.{true}
 use mathlib.Core.List.{List, map}
 use lib.ListN.{length, take, drop, length-map}
-use lib.Dec.{ltb}
 use lib.Seq.{take-all, length-take-le}
 use borrow.Author.Tests.{ltb-false}
-use Rattle.felica_format.specs.Basic.{taken, refuseIf}
+use Rattle.felica_format.specs.Basic.{taken}
 use Rattle.felica_format.specs.Command.{Element}
-use Rattle.felica_format.specs.Read.{wordsOf, readData}
+use Rattle.felica_format.specs.Read.{readData}
 use Rattle.felica_format.proofs.Steps.{refuseIf-passed}
+use Rattle.felica_command.proofs.Inside.{wordsOf-length}
 use Rattle.felica_command.specs.Meaning.{part, codesAt, elementsAt, bytesAt}
-use Rattle.felica_command.specs.Places.{Places, places, elementsSize}
+use Rattle.felica_command.specs.Places.{places, elementsSize}
 use Rattle.felica_command.specs.declared.command.Part.{Part}
-
-pub wordsOf-length : (n : ℕ) (s : List ℕ) → length (wordsOf n s) ≡ n
-unfolding wordsOf
-wordsOf-length zero s = refl
-wordsOf-length (suc n) s = ap suc (wordsOf-length n (drop 2 s))
 
 pub places-eq : {f f′ g g′ e e′ d d′ p p′ : Part} → f ≡ f′ → g ≡ g′ → e ≡ e′ → d ≡ d′ → p ≡ p′ → places f g e d p ≡ places f′ g′ e′ d′ p′
 places-eq a b c d e = rw (a, b, c, d, e)

@@ -6,7 +6,7 @@ ghost use lib.ListN.{drop};
 ghost use Rattle.felica_format.specs.Layout.{classOf};
 ghost use Rattle.felica_format.specs.Read.{readPayload, readFrame, readSecure, readPlainAs};
 ghost use Rattle.felica_command.specs.Meaning.{meaning, Canonical};
-ghost use Rattle.felica_command.specs.Places.{placesOf, readPlaces, Account};
+ghost use Rattle.felica_command.specs.Places.{placesOf, readPlaces, Inside, Account};
 ghost use Rattle.felica_parse.specs.Bodies.{NotPlain};
 
 mod kinds;
@@ -42,7 +42,7 @@ use secure::parse_write;
 
 // A frame: the length byte, which counts itself, and the payload. The places of the parts count from the payload's first byte, the one behind the length byte.
 pub fn parse_frame(frame: &[u8]) -> Parsed
-    ensures { λ r. ⌜ (meaning (drop 1 (now (frame .entry))) r ≡ readFrame (now (frame .entry))) × (placesOf r ≡ readPlaces 1 (drop 1 (now (frame .entry))) (readFrame (now (frame .entry)))) × Canonical r ⌝ }
+    ensures { λ r. ⌜ (meaning (drop 1 (now (frame .entry))) r ≡ readFrame (now (frame .entry))) × (placesOf r ≡ readPlaces 1 (drop 1 (now (frame .entry))) (readFrame (now (frame .entry)))) × Canonical r × Inside (drop 1 (now (frame .entry))) (placesOf r) ⌝ }
 {
     if frame.len() == 0 {
         return Parsed::refused_without_code(error::EMPTY_FRAME);
@@ -56,7 +56,7 @@ pub fn parse_frame(frame: &[u8]) -> Parsed
 
 // A payload: the code byte and the body of its command.
 pub fn parse_payload(payload: &[u8]) -> Parsed
-    ensures { λ r. ⌜ (meaning (now (payload .entry)) r ≡ readPayload (now (payload .entry))) × (placesOf r ≡ readPlaces 1 (now (payload .entry)) (readPayload (now (payload .entry)))) × Canonical r ⌝ }
+    ensures { λ r. ⌜ (meaning (now (payload .entry)) r ≡ readPayload (now (payload .entry))) × (placesOf r ≡ readPlaces 1 (now (payload .entry)) (readPayload (now (payload .entry)))) × Canonical r × Inside (now (payload .entry)) (placesOf r) ⌝ }
 {
     if payload.len() == 0 {
         return Parsed::refused_without_code(error::EMPTY_PAYLOAD);
@@ -111,7 +111,7 @@ fn refuse_code(command_code: u8) -> Parsed
 
 // The decrypted payload of a secure code. A plain code is unknown here.
 pub fn parse_secure_payload(command_code: u8, payload: &[u8]) -> Parsed
-    ensures { λ r. ⌜ (meaning (now (payload .entry)) r ≡ readSecure «command_code» (now (payload .entry))) × (placesOf r ≡ readPlaces 0 (now (payload .entry)) (readSecure «command_code» (now (payload .entry)))) × Canonical r ⌝ }
+    ensures { λ r. ⌜ (meaning (now (payload .entry)) r ≡ readSecure «command_code» (now (payload .entry))) × (placesOf r ≡ readPlaces 0 (now (payload .entry)) (readSecure «command_code» (now (payload .entry)))) × Canonical r × Inside (now (payload .entry)) (placesOf r) ⌝ }
 {
     match command_code {
         constants::READ_COMMAND_CODE | constants::READ_V2_COMMAND_CODE => parse_read(

@@ -10,8 +10,7 @@ use denote.Ref.{now}
 use lib.ListN.{length, getD, take, drop, length-drop}
 use lib.Seq.{take-all}
 use Rattle.felica_format.specs.Read.{Answer, readPayload, readFrame}
-use Rattle.felica_command.specs.Places.{Account}
-use Rattle.felica_parse.proofs.Entry.{refusal-account, frame-empty, frame-length, frame-payload}
+use Rattle.felica_parse.proofs.Entry.{refusal-settled, Settled, frame-empty, frame-length, frame-payload}
 use borrow.Author.Needs.{needs}
 use Rattle.felica_parse.proofs.parse_frame.Statement.{statement}
 use Rattle.felica_parse.proofs.parse_frame.Tie as tie
@@ -22,7 +21,7 @@ refused-without-code-requires c κs = search needs
 returns : tie.Need-returns
 returns c =
     let s = now (c .before .before .before .args .frame) in
-    refusal-account (drop 1 s) 1 1 none (readFrame s) _ (c .refused-without-code .ensures) (frame-empty s (c .before .if1 .taken))
+    refusal-settled (drop 1 s) 1 1 none (readFrame s) _ (c .refused-without-code .ensures) (frame-empty s (c .before .if1 .taken))
 
 shared-slice-read-expected-len : tie.Need-shared-slice-read-expected-len
 shared-slice-read-expected-len c = search needs
@@ -36,7 +35,7 @@ refused-without-code-requires-2 c κs = search needs
 returns-2 : tie.Need-returns-2
 returns-2 c =
     let s = now (c .before .before .before .before .before .args .frame) in
-    refusal-account (drop 1 s) 1 2 none (readFrame s) _ (c .refused-without-code2 .ensures) (frame-length s (c .before .before .before .if1 .left) (c .before .if2 .taken))
+    refusal-settled (drop 1 s) 1 2 none (readFrame s) _ (c .refused-without-code2 .ensures) (frame-length s (c .before .before .before .if1 .left) (c .before .if2 .taken))
 
 sub-parse-payload : tie.Need-sub-parse-payload
 sub-parse-payload c = search needs
@@ -54,8 +53,8 @@ returns-3 : tie.Need-returns-3
 returns-3 c =
     let s = now (c .before .before .before .before .before .before .args .frame) in
     let rest : take (length s - 1) (drop 1 s) ≡ drop 1 s = take-all (length s - 1) (drop 1 s) (simp length-drop (omega arith)) in
-    let read = subst (λ (l : List ℕ). Account l 1 (readPayload l) (c .parse-payload .result)) rest (c .parse-payload .ensures) in
-    subst (λ (x : Answer). Account (drop 1 s) 1 x (c .parse-payload .result)) (sym (frame-payload s (c .before .before .before .before .if1 .left) (c .before .before .if2 .left))) read
+    let read = subst (λ (l : List ℕ). Settled l 1 (readPayload l) (c .parse-payload .result)) rest (c .parse-payload .ensures) in
+    subst (λ (x : Answer). Settled (drop 1 s) 1 x (c .parse-payload .result)) (sym (frame-payload s (c .before .before .before .before .if1 .left) (c .before .before .if2 .left))) read
 
 pub parse-frame-spec : {M : Type 1} → statement M
 parse-frame-spec =

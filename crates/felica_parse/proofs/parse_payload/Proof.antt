@@ -7,7 +7,7 @@ use denote.Ref.{now}
 use lib.ListN.{getD}
 use Rattle.felica_format.specs.Layout.{classOf, has, plainRows}
 use Rattle.felica_format.specs.Read.{readPayload}
-use Rattle.felica_parse.proofs.Entry.{refusal-account, payload-empty, payload-account, plain-account, not-plain, code-list-plain, idm-alone-plain, word-plain, reserved-plain}
+use Rattle.felica_parse.proofs.Entry.{refusal-settled, payload-empty, payload-settled, plain-settled, not-plain, code-list-plain, idm-alone-plain, word-plain, reserved-plain}
 use borrow.Author.Needs.{needs}
 use Rattle.felica_parse.proofs.parse_payload.Statement.{statement}
 use Rattle.felica_parse.proofs.parse_payload.Tie as tie
@@ -18,7 +18,7 @@ refused-without-code-requires c κs = search needs
 returns : tie.Need-returns
 returns c =
     let s = now (c .before .before .before .args .payload) in
-    refusal-account s 1 3 none (readPayload s) _ (c .refused-without-code .ensures) (payload-empty s (c .before .if1 .taken))
+    refusal-settled s 1 3 none (readPayload s) _ (c .refused-without-code .ensures) (payload-empty s (c .before .if1 .taken))
 
 shared-slice-read-command-code : tie.Need-shared-slice-read-command-code
 shared-slice-read-command-code c = search needs
@@ -93,68 +93,68 @@ refuse-code-requires c κs =
 
 returns-2 : tie.Need-returns-2
 unfolding classOf has plainRows
-returns-2 c = plain-account (now (c .before .before .before .before .before .args .payload)) 0x00 (c .parse-polling .result) (c .before .before .before .if1 .left) (c .before .match .keys1) refl (c .parse-polling .ensures)
+returns-2 c = plain-settled (now (c .before .before .before .before .before .args .payload)) 0x00 (c .parse-polling .result) (c .before .before .before .if1 .left) (c .before .match .keys1) refl (c .parse-polling .ensures)
 
 returns-3 : tie.Need-returns-3
-returns-3 c = plain-account (now (c .before .before .before .before .before .args .payload)) _ (c .parse-code-list .result) (c .before .before .before .if1 .left) refl (code-list-plain _ (c .before .match .keys2)) (c .parse-code-list .ensures)
+returns-3 c = plain-settled (now (c .before .before .before .before .before .args .payload)) _ (c .parse-code-list .result) (c .before .before .before .if1 .left) refl (code-list-plain _ (c .before .match .keys2)) (c .parse-code-list .ensures)
 
 returns-4 : tie.Need-returns-4
-returns-4 c = plain-account (now (c .before .before .before .before .before .args .payload)) _ (c .parse-idm-alone .result) (c .before .before .before .if1 .left) refl (idm-alone-plain _ (c .before .match .keys3)) (c .parse-idm-alone .ensures)
+returns-4 c = plain-settled (now (c .before .before .before .before .before .args .payload)) _ (c .parse-idm-alone .result) (c .before .before .before .if1 .left) refl (idm-alone-plain _ (c .before .match .keys3)) (c .parse-idm-alone .ensures)
 
 returns-5 : tie.Need-returns-5
 unfolding classOf has plainRows
-returns-5 c = plain-account (now (c .before .before .before .before .before .args .payload)) 0x06 (c .parse-read-without-encryption .result) (c .before .before .before .if1 .left) (c .before .match .keys4) refl (c .parse-read-without-encryption .ensures)
+returns-5 c = plain-settled (now (c .before .before .before .before .before .args .payload)) 0x06 (c .parse-read-without-encryption .result) (c .before .before .before .if1 .left) (c .before .match .keys4) refl (c .parse-read-without-encryption .ensures)
 
 returns-6 : tie.Need-returns-6
 unfolding classOf has plainRows
-returns-6 c = plain-account (now (c .before .before .before .before .before .args .payload)) 0x08 (c .parse-write-without-encryption .result) (c .before .before .before .if1 .left) (c .before .match .keys5) refl (c .parse-write-without-encryption .ensures)
+returns-6 c = plain-settled (now (c .before .before .before .before .before .args .payload)) 0x08 (c .parse-write-without-encryption .result) (c .before .before .before .if1 .left) (c .before .match .keys5) refl (c .parse-write-without-encryption .ensures)
 
 returns-7 : tie.Need-returns-7
-returns-7 c = plain-account (now (c .before .before .before .before .before .args .payload)) _ (c .parse-idm-and-word .result) (c .before .before .before .if1 .left) refl (word-plain _ (c .before .match .keys6)) (c .parse-idm-and-word .ensures)
+returns-7 c = plain-settled (now (c .before .before .before .before .before .args .payload)) _ (c .parse-idm-and-word .result) (c .before .before .before .if1 .left) refl (word-plain _ (c .before .match .keys6)) (c .parse-idm-and-word .ensures)
 
 returns-8 : tie.Need-returns-8
 unfolding classOf has plainRows
-returns-8 c = plain-account (now (c .before .before .before .before .before .args .payload)) 0x10 (c .parse-authentication1 .result) (c .before .before .before .if1 .left) (c .before .match .keys7) refl (c .parse-authentication1 .ensures)
+returns-8 c = plain-settled (now (c .before .before .before .before .before .args .payload)) 0x10 (c .parse-authentication1 .result) (c .before .before .before .if1 .left) (c .before .match .keys7) refl (c .parse-authentication1 .ensures)
 
 returns-9 : tie.Need-returns-9
 unfolding classOf has plainRows
-returns-9 c = plain-account (now (c .before .before .before .before .before .args .payload)) 0x12 (c .parse-authentication2 .result) (c .before .before .before .if1 .left) (c .before .match .keys8) refl (c .parse-authentication2 .ensures)
+returns-9 c = plain-settled (now (c .before .before .before .before .before .args .payload)) 0x12 (c .parse-authentication2 .result) (c .before .before .before .if1 .left) (c .before .match .keys8) refl (c .parse-authentication2 .ensures)
 
 returns-10 : tie.Need-returns-10
 unfolding classOf has plainRows
-returns-10 c = plain-account (now (c .before .before .before .before .before .args .payload)) 0x1A (c .parse-request-code-list .result) (c .before .before .before .if1 .left) (c .before .match .keys9) refl (c .parse-request-code-list .ensures)
+returns-10 c = plain-settled (now (c .before .before .before .before .before .args .payload)) 0x1A (c .parse-request-code-list .result) (c .before .before .before .if1 .left) (c .before .match .keys9) refl (c .parse-request-code-list .ensures)
 
 returns-11 : tie.Need-returns-11
 unfolding classOf has plainRows
-returns-11 c = plain-account (now (c .before .before .before .before .before .args .payload)) 0x20 (c .parse-set-parameter .result) (c .before .before .before .if1 .left) (c .before .match .keys10) refl (c .parse-set-parameter .ensures)
+returns-11 c = plain-settled (now (c .before .before .before .before .before .args .payload)) 0x20 (c .parse-set-parameter .result) (c .before .before .before .if1 .left) (c .before .match .keys10) refl (c .parse-set-parameter .ensures)
 
 returns-12 : tie.Need-returns-12
-returns-12 c = plain-account (now (c .before .before .before .before .before .args .payload)) _ (c .parse-idm-and-reserved .result) (c .before .before .before .if1 .left) refl (reserved-plain _ (c .before .match .keys11)) (c .parse-idm-and-reserved .ensures)
+returns-12 c = plain-settled (now (c .before .before .before .before .before .args .payload)) _ (c .parse-idm-and-reserved .result) (c .before .before .before .if1 .left) refl (reserved-plain _ (c .before .match .keys11)) (c .parse-idm-and-reserved .ensures)
 
 returns-13 : tie.Need-returns-13
 unfolding classOf has plainRows
-returns-13 c = plain-account (now (c .before .before .before .before .before .args .payload)) 0x28 (c .parse-get-node-property .result) (c .before .before .before .if1 .left) (c .before .match .keys12) refl (c .parse-get-node-property .ensures)
+returns-13 c = plain-settled (now (c .before .before .before .before .before .args .payload)) 0x28 (c .parse-get-node-property .result) (c .before .before .before .if1 .left) (c .before .match .keys12) refl (c .parse-get-node-property .ensures)
 
 returns-14 : tie.Need-returns-14
 unfolding classOf has plainRows
-returns-14 c = plain-account (now (c .before .before .before .before .before .args .payload)) 0x2E (c .parse-get-container-property .result) (c .before .before .before .if1 .left) (c .before .match .keys13) refl (c .parse-get-container-property .ensures)
+returns-14 c = plain-settled (now (c .before .before .before .before .before .args .payload)) 0x2E (c .parse-get-container-property .result) (c .before .before .before .if1 .left) (c .before .match .keys13) refl (c .parse-get-container-property .ensures)
 
 returns-15 : tie.Need-returns-15
 unfolding classOf has plainRows
-returns-15 c = plain-account (now (c .before .before .before .before .before .args .payload)) 0x40 (c .parse-authentication1-v2 .result) (c .before .before .before .if1 .left) (c .before .match .keys14) refl (c .parse-authentication1-v2 .ensures)
+returns-15 c = plain-settled (now (c .before .before .before .before .before .args .payload)) 0x40 (c .parse-authentication1-v2 .result) (c .before .before .before .if1 .left) (c .before .match .keys14) refl (c .parse-authentication1-v2 .ensures)
 
 returns-16 : tie.Need-returns-16
 unfolding classOf has plainRows
-returns-16 c = plain-account (now (c .before .before .before .before .before .args .payload)) 0x42 (c .parse-authentication2-v2 .result) (c .before .before .before .if1 .left) (c .before .match .keys15) refl (c .parse-authentication2-v2 .ensures)
+returns-16 c = plain-settled (now (c .before .before .before .before .before .args .payload)) 0x42 (c .parse-authentication2-v2 .result) (c .before .before .before .if1 .left) (c .before .match .keys15) refl (c .parse-authentication2-v2 .ensures)
 
 returns-17 : tie.Need-returns-17
 unfolding classOf has plainRows
-returns-17 c = plain-account (now (c .before .before .before .before .before .args .payload)) 0x70 (c .parse-get-container-id .result) (c .before .before .before .if1 .left) (c .before .match .keys16) refl (c .parse-get-container-id .ensures)
+returns-17 c = plain-settled (now (c .before .before .before .before .before .args .payload)) 0x70 (c .parse-get-container-id .result) (c .before .before .before .if1 .left) (c .before .match .keys16) refl (c .parse-get-container-id .ensures)
 
 returns-18 : tie.Need-returns-18
 returns-18 c =
     let s = now (c .before .before .before .before .before .args .payload) in
-    payload-account s (getD s 0 0) (c .refuse-code .result) (c .before .before .before .if1 .left) refl (c .refuse-code .ensures s)
+    payload-settled s (getD s 0 0) (c .refuse-code .result) (c .before .before .before .if1 .left) refl (c .refuse-code .ensures s)
 
 pub parse-payload-spec : {M : Type 1} → statement M
 parse-payload-spec =

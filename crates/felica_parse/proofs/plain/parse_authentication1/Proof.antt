@@ -8,6 +8,7 @@ use denote.Ref.{now}
 use lib.ListN.{drop}
 use Rattle.felica_format.specs.Read.{wordsOf, readEach}
 use Rattle.felica_command.specs.Places.{layoutPlaces}
+use Rattle.felica_command.proofs.Inside.{wordsOf-length}
 use Rattle.felica_cursor.specs.Answers.{MovesTo, movedWith, movedGround, listGround}
 use Rattle.felica_cursor.specs.Steps.{codesTaken, CodesPlaced}
 use Rattle.felica_cursor.specs.declared.answers.Moved.{Moved}
@@ -15,7 +16,7 @@ use Rattle.felica_cursor.specs.declared.answers.ListTaken.{ListTaken}
 use Rattle.felica_command.specs.declared.command.FelicaStandardCommand.the-variants.{Authentication1}
 use Rattle.felica_parse.proofs.Walk.{on, stop, body, no-selector, no-elements, no-data, no-package, refused-at, accepted-at}
 use Rattle.felica_parse.proofs.Walk.{idmStep, endStep}
-use Rattle.felica_parse.proofs.Spots.{wordsOf-length, places-eq, codes-part}
+use Rattle.felica_parse.proofs.Spots.{places-eq, codes-part}
 use Rattle.felica_parse.proofs.Layouts.{layout-10}
 use Rattle.felica_parse.proofs.plain.parse_authentication1.Statement.{statement}
 use Rattle.felica_parse.proofs.plain.parse_authentication1.Tie as tie

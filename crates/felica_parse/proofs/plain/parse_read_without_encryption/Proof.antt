@@ -9,6 +9,7 @@ use lib.ListN.{drop}
 use Rattle.felica_format.specs.Basic.{zeros}
 use Rattle.felica_format.specs.Read.{wordsOf, readEach}
 use Rattle.felica_command.specs.Places.{layoutPlaces}
+use Rattle.felica_command.proofs.Inside.{wordsOf-length}
 use Rattle.felica_cursor.specs.Answers.{MovesTo, movedWith, movedGround, listGround}
 use Rattle.felica_cursor.specs.Steps.{codesTaken, elementsTaken, CodesPlaced, ElementsPlaced}
 use Rattle.felica_cursor.specs.declared.answers.Moved.{Moved}
@@ -16,7 +17,7 @@ use Rattle.felica_cursor.specs.declared.answers.ListTaken.{ListTaken}
 use Rattle.felica_command.specs.declared.command.FelicaStandardCommand.the-variants.{ReadWithoutEncryption}
 use Rattle.felica_parse.proofs.Walk.{on, stop, body, no-selector, no-codes, no-data, no-package, refused-at, accepted-at}
 use Rattle.felica_parse.proofs.Walk.{idmStep, endStep}
-use Rattle.felica_parse.proofs.Spots.{wordsOf-length, places-eq, codes-part, elements-part}
+use Rattle.felica_parse.proofs.Spots.{places-eq, codes-part, elements-part}
 use Rattle.felica_parse.proofs.Layouts.{layout-06}
 use Rattle.felica_parse.proofs.plain.parse_read_without_encryption.Statement.{statement}
 use Rattle.felica_parse.proofs.plain.parse_read_without_encryption.Tie as tie

@@ -10,6 +10,7 @@ use Rattle.felica_format.specs.Basic.{zeros}
 use Rattle.felica_format.specs.Read.{wordsOf, readEach}
 use Rattle.felica_command.specs.Meaning.{elementsAt}
 use Rattle.felica_command.specs.Places.{layoutPlaces}
+use Rattle.felica_command.proofs.Inside.{wordsOf-length}
 use Rattle.felica_cursor.specs.Answers.{MovesTo, movedWith, movedGround, listGround}
 use Rattle.felica_cursor.specs.Steps.{codesTaken, elementsTaken, dataTaken, CodesPlaced, ElementsPlaced, DataPlaced}
 use Rattle.felica_cursor.specs.declared.answers.Moved.{Moved}
@@ -17,7 +18,7 @@ use Rattle.felica_cursor.specs.declared.answers.ListTaken.{ListTaken}
 use Rattle.felica_command.specs.declared.command.FelicaStandardCommand.the-variants.{WriteWithoutEncryption}
 use Rattle.felica_parse.proofs.Walk.{on, stop, body, no-selector, no-codes, no-package, data-counted, refused-at, accepted-at}
 use Rattle.felica_parse.proofs.Walk.{idmStep, endStep}
-use Rattle.felica_parse.proofs.Spots.{wordsOf-length, places-eq, codes-part, elements-part, data-part, behind-blocks}
+use Rattle.felica_parse.proofs.Spots.{places-eq, codes-part, elements-part, data-part, behind-blocks}
 use Rattle.felica_parse.proofs.Layouts.{layout-08}
 use Rattle.felica_parse.proofs.plain.parse_write_without_encryption.Statement.{statement}
 use Rattle.felica_parse.proofs.plain.parse_write_without_encryption.Tie as tie
