@@ -158,9 +158,9 @@ abbrev pub Canonical : Parsed → Type 0
 Canonical r = CanonicalAnswer (r .idm) (r .challenge) (r .answer)
 
 -- the result that refuses
-abbrev pub refusalOf : ℕ → Option ℕ → Refusal
-refusalOf n none = Number n
-refusalOf n (some code) = OfCommand n code
+abbrev pub refusedBy : Refusal → Parsed
+refusedBy why = record { answer = AnswerRefused why; idm = zeros 8; challenge = zeros 16 }
 
 abbrev pub refusal : ℕ → Option ℕ → Parsed
-refusal n code = record { answer = AnswerRefused (refusalOf n code); idm = zeros 8; challenge = zeros 16 }
+refusal n none = refusedBy (Number n)
+refusal n (some code) = refusedBy (OfCommand n code)

@@ -1,7 +1,7 @@
 // The commands of command/mod.rs and the result of a parse.
 ghost use mathlib.Core.Path.{_≡_};
 ghost use mathlib.Core.Option.{some, none};
-ghost use Rattle.felica_command.specs.Meaning.{refusal};
+ghost use Rattle.felica_command.specs.Meaning.{refusedBy, refusal};
 use crate::types::ContainerProperty;
 use crate::types::NodeCode;
 use crate::types::NodePropertyType;
@@ -131,25 +131,27 @@ pub struct Parsed {
 }
 
 impl Parsed {
+    fn refused_by(why: Refusal) -> Parsed
+        ensures { λ r. ⌜ r ≡ refusedBy why ⌝ }
+    {
+        Parsed {
+            answer: Answer::Refused(why),
+            idm: [0u8; 8],
+            challenge: [0u8; 16],
+        }
+    }
+
     // A refusal from 4 up.
     pub fn refused(number: u8, command_code: u8) -> Parsed
         ensures { λ r. ⌜ r ≡ refusal number (some «command_code») ⌝ }
     {
-        Parsed {
-            answer: Answer::Refused(Refusal::OfCommand(number, command_code)),
-            idm: [0u8; 8],
-            challenge: [0u8; 16],
-        }
+        Parsed::refused_by(Refusal::OfCommand(number, command_code))
     }
 
     // A refusal before there is a command code: 1 to 3.
     pub fn refused_without_code(number: u8) -> Parsed
         ensures { λ r. ⌜ r ≡ refusal number none ⌝ }
     {
-        Parsed {
-            answer: Answer::Refused(Refusal::Number(number)),
-            idm: [0u8; 8],
-            challenge: [0u8; 16],
-        }
+        Parsed::refused_by(Refusal::Number(number))
     }
 }
