@@ -133,3 +133,7 @@ PayloadInside = (s : List ℕ) → Inside s (readPlaces 1 s (readPayload s))
 
 abbrev pub SecureInside : Type 0
 SecureInside = (code : ℕ) (s : List ℕ) → Inside s (readPlaces 0 s (readSecure code s))
+
+-- An account leaves nothing open: no two results meet it (proofs/OneAccount.antt).
+abbrev pub OneAccount : Type 0
+OneAccount = (s : List ℕ) (at : ℕ) (reading : Reading) (r t : Parsed) → Account s at reading r → Account s at reading t → r ≡ t
