@@ -1,6 +1,5 @@
 -- `parse_authentication2_v2` meets its contract: a walk along its layout, by what each step says.
 -- Assumes nothing.
-use borrow.Author.Needs.{needs}
 use mathlib.Core.Path.{refl, ap, _∙_}
 use denote.Ref.{now}
 use lib.ListN.{drop}
@@ -20,7 +19,9 @@ returns c =
     let start = at-idm .before .before in
     let s = now (start .args .payload) in
     let idm = at-idm .take-idm .ensures .0 ∙ ap (idmStep s (at-idm .take-idm .result .idm)) (c .before .before .enum-told .given .1) in
-    refused-at s 1 0x42 _ _ _ _ layout-42 (body 0x42 _ (drop 1 s) ∙ stop _ idm) (c .before .ground .ensures ∙ ap movedGround (c .before .before .enum-told .given .1)) (c .refused .ensures)
+    refused-at s 1 0x42 _ _ _ _ layout-42
+    (body 0x42 _ (drop 1 s) ∙ stop _ idm)
+    (c .before .ground .ensures ∙ ap movedGround (c .before .before .enum-told .given .1)) (c .refused .ensures)
 
 returns-2 : tie.Need-returns-2
 returns-2 c =
@@ -30,7 +31,9 @@ returns-2 c =
     let s = now (start .args .payload) in
     let idm = at-idm .take-idm .ensures .0 ∙ ap (idmStep s (at-idm .take-idm .result .idm)) (at-ending .before .before .step .given .1) in
     let ending = at-ending .take-challenge-16 .ensures .0 ∙ ap (endStep s (at-ending .take-challenge-16 .result .challenge)) (c .before .before .enum-told3 .given .1) in
-    refused-at s 1 0x42 _ _ _ _ layout-42 (body 0x42 _ (drop 1 s) ∙ on _ idm (on _ (no-selector _) (on _ (no-codes _ _ _) (on _ (no-codes _ _ _) (on _ (no-elements _ _ _) (on _ (no-data _ _) (stop _ ending))))))) (c .before .ground2 .ensures ∙ ap movedGround (c .before .before .enum-told3 .given .1)) (c .refused2 .ensures)
+    refused-at s 1 0x42 _ _ _ _ layout-42
+    (body 0x42 _ (drop 1 s) ∙ on _ idm (on _ (no-selector _) (on _ (no-codes _ _ _) (on _ (no-codes _ _ _) (on _ (no-elements _ _ _) (on _ (no-data _ _) (stop _ ending)))))))
+    (c .before .ground2 .ensures ∙ ap movedGround (c .before .before .enum-told3 .given .1)) (c .refused2 .ensures)
 
 returns-3 : tie.Need-returns-3
 unfolding layoutPlaces wordsOf readEach
@@ -41,7 +44,9 @@ returns-3 c =
     let s = now (start .args .payload) in
     let idm = at-idm .take-idm .ensures .0 ∙ ap (idmStep s (at-idm .take-idm .result .idm)) (at-ending .before .before .step .given .1) in
     let ending = at-ending .take-challenge-16 .ensures .0 ∙ ap (endStep s (at-ending .take-challenge-16 .result .challenge)) (c .before .before .enum-told2 .given .1) in
-    accepted-at s 1 0x42 _ Authentication2V2 _ (at-idm .take-idm .result .idm) (at-ending .take-challenge-16 .result .challenge) _ _ layout-42 refl (body 0x42 _ (drop 1 s) ∙ on _ idm (on _ (no-selector _) (on _ (no-codes _ _ _) (on _ (no-codes _ _ _) (on _ (no-elements _ _ _) (on _ (no-data _ _) (on _ ending (on _ (no-package _) refl)))))))) refl refl
+    accepted-at s 1 0x42 _ Authentication2V2 _ (at-idm .take-idm .result .idm) (at-ending .take-challenge-16 .result .challenge) _ _ layout-42 refl
+    (body 0x42 _ (drop 1 s) ∙ on _ idm (on _ (no-selector _) (on _ (no-codes _ _ _) (on _ (no-codes _ _ _) (on _ (no-elements _ _ _) (on _ (no-data _ _) (on _ ending (on _ (no-package _) refl))))))))
+    refl refl
     refl refl
 
 pub parse-authentication2-v2-spec : {M : Type 1} → statement M
@@ -49,14 +54,14 @@ parse-authentication2-v2-spec =
     tie.close
     (tie.spec
     (λ c κs. tt)
-    (λ c. search needs)
-    (λ c. search needs)
+    (λ c. c .match .keys1)
+    (λ c. c .match .keys2)
     (λ c κs. tt)
     (λ c κs. tt)
     returns
     (λ c κs. tt)
-    (λ c. search needs)
-    (λ c. search needs)
+    (λ c. c .match2 .keys1)
+    (λ c. c .match2 .keys2)
     (λ c κs. tt)
     (λ c κs. tt)
     returns-2

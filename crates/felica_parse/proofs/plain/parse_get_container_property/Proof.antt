@@ -1,6 +1,5 @@
 -- `parse_get_container_property` meets its contract: a walk along its layout, by what each step says.
 -- Assumes nothing.
-use borrow.Author.Needs.{needs}
 use mathlib.Core.Path.{refl, ap, _∙_}
 use denote.Ref.{now}
 use lib.ListN.{drop}
@@ -22,7 +21,9 @@ returns c =
     let start = at-ending .before .before in
     let s = now (start .args .payload) in
     let ending = at-ending .take-word .ensures .0 ∙ ap (wordStep s) (c .before .before .enum-told .given .1) in
-    refused-at s 1 0x2E _ _ _ _ layout-2E (body 0x2E _ (drop 1 s) ∙ on _ (no-idm _) (on _ (no-selector _) (on _ (no-codes _ _ _) (on _ (no-codes _ _ _) (on _ (no-elements _ _ _) (on _ (no-data _ _) (stop _ ending))))))) (c .before .ground .ensures ∙ ap wordGround (c .before .before .enum-told .given .1)) (c .refused .ensures)
+    refused-at s 1 0x2E _ _ _ _ layout-2E
+    (body 0x2E _ (drop 1 s) ∙ on _ (no-idm _) (on _ (no-selector _) (on _ (no-codes _ _ _) (on _ (no-codes _ _ _) (on _ (no-elements _ _ _) (on _ (no-data _ _) (stop _ ending)))))))
+    (c .before .ground .ensures ∙ ap wordGround (c .before .before .enum-told .given .1)) (c .refused .ensures)
 
 returns-2 : tie.Need-returns-2
 unfolding layoutPlaces wordsOf readEach
@@ -31,7 +32,9 @@ returns-2 c =
     let start = at-ending .before .before in
     let s = now (start .args .payload) in
     let ending = at-ending .take-word .ensures .0 ∙ ap (wordStep s) (c .before .before .taken .given .1) in
-    accepted-at s 1 0x2E _ (GetContainerProperty (c .from-index .result)) _ (zeros 8) (zeros 16) _ _ layout-2E refl (body 0x2E _ (drop 1 s) ∙ on _ (no-idm _) (on _ (no-selector _) (on _ (no-codes _ _ _) (on _ (no-codes _ _ _) (on _ (no-elements _ _ _) (on _ (no-data _ _) (on _ ending (on _ (no-package _) refl)))))))) (rw ((c .from-index .ensures), property-index) refl) refl
+    accepted-at s 1 0x2E _ (GetContainerProperty (c .from-index .result)) _ (zeros 8) (zeros 16) _ _ layout-2E refl
+    (body 0x2E _ (drop 1 s) ∙ on _ (no-idm _) (on _ (no-selector _) (on _ (no-codes _ _ _) (on _ (no-codes _ _ _) (on _ (no-elements _ _ _) (on _ (no-data _ _) (on _ ending (on _ (no-package _) refl))))))))
+    (rw ((c .from-index .ensures), property-index) refl) refl
     refl (property-canonical (c .before .before .taken .given .0 .0) _ (c .from-index .ensures))
 
 pub parse-get-container-property-spec : {M : Type 1} → statement M
@@ -39,8 +42,8 @@ parse-get-container-property-spec =
     tie.close
     (tie.spec
     (λ c κs. tt)
-    (λ c. search needs)
-    (λ c. search needs)
+    (λ c. c .match .keys1)
+    (λ c. c .match .keys2)
     (λ c κs. tt)
     (λ c κs. tt)
     returns

@@ -20,7 +20,9 @@ returns c =
     let start = at-idm .before .before in
     let s = now (start .args .payload) in
     let idm = at-idm .take-idm .ensures .0 ∙ ap (idmStep s (at-idm .take-idm .result .idm)) (c .before .before .enum-told .given .1) in
-    refused-at s 1 (start .args .command-code) _ _ _ _ (idm-alone-layout (start .args .command-code) (start .pre)) (body (start .args .command-code) _ (drop 1 s) ∙ stop _ idm) (c .before .ground .ensures ∙ ap movedGround (c .before .before .enum-told .given .1)) (c .refused .ensures)
+    refused-at s 1 (start .args .command-code) _ _ _ _ (idm-alone-layout (start .args .command-code) (start .pre))
+    (body (start .args .command-code) _ (drop 1 s) ∙ stop _ idm)
+    (c .before .ground .ensures ∙ ap movedGround (c .before .before .enum-told .given .1)) (c .refused .ensures)
 
 returns-2 : tie.Need-returns-2
 returns-2 c =
@@ -30,7 +32,9 @@ returns-2 c =
     let s = now (start .args .payload) in
     let idm = at-idm .take-idm .ensures .0 ∙ ap (idmStep s (at-idm .take-idm .result .idm)) (at-ending .before .before .step .given .1) in
     let ending = at-ending .take-end .ensures .0 ∙ ap (endStep s (zeros 16)) (c .before .before .enum-told3 .given .1) in
-    refused-at s 1 (start .args .command-code) _ _ _ _ (idm-alone-layout (start .args .command-code) (start .pre)) (body (start .args .command-code) _ (drop 1 s) ∙ on _ idm (on _ (no-selector _) (on _ (no-codes _ _ _) (on _ (no-codes _ _ _) (on _ (no-elements _ _ _) (on _ (no-data _ _) (stop _ ending))))))) (c .before .ground2 .ensures ∙ ap movedGround (c .before .before .enum-told3 .given .1)) (c .refused2 .ensures)
+    refused-at s 1 (start .args .command-code) _ _ _ _ (idm-alone-layout (start .args .command-code) (start .pre))
+    (body (start .args .command-code) _ (drop 1 s) ∙ on _ idm (on _ (no-selector _) (on _ (no-codes _ _ _) (on _ (no-codes _ _ _) (on _ (no-elements _ _ _) (on _ (no-data _ _) (stop _ ending)))))))
+    (c .before .ground2 .ensures ∙ ap movedGround (c .before .before .enum-told3 .given .1)) (c .refused2 .ensures)
 
 returns-3 : tie.Need-returns-3
 unfolding layoutPlaces wordsOf readEach
@@ -41,7 +45,9 @@ returns-3 c =
     let s = now (start .args .payload) in
     let idm = at-idm .take-idm .ensures .0 ∙ ap (idmStep s (at-idm .take-idm .result .idm)) (at-ending .before .before .step .given .1) in
     let ending = at-ending .take-end .ensures .0 ∙ ap (endStep s (zeros 16)) (c .before .before .enum-told2 .given .1) in
-    accepted-at s 1 (start .args .command-code) _ (c .before .idm-alone-kind .result) _ (at-idm .take-idm .result .idm) (zeros 16) _ _ (idm-alone-layout (start .args .command-code) (start .pre)) (c .before .idm-alone-kind .ensures) (body (start .args .command-code) _ (drop 1 s) ∙ on _ idm (on _ (no-selector _) (on _ (no-codes _ _ _) (on _ (no-codes _ _ _) (on _ (no-elements _ _ _) (on _ (no-data _ _) (on _ ending (on _ (no-package _) refl)))))))) refl refl
+    accepted-at s 1 (start .args .command-code) _ (c .before .idm-alone-kind .result) _ (at-idm .take-idm .result .idm) (zeros 16) _ _ (idm-alone-layout (start .args .command-code) (start .pre)) (c .before .idm-alone-kind .ensures)
+    (body (start .args .command-code) _ (drop 1 s) ∙ on _ idm (on _ (no-selector _) (on _ (no-codes _ _ _) (on _ (no-codes _ _ _) (on _ (no-elements _ _ _) (on _ (no-data _ _) (on _ ending (on _ (no-package _) refl))))))))
+    refl refl
     refl refl
 
 pub parse-idm-alone-spec : {M : Type 1} → statement M
@@ -49,14 +55,14 @@ parse-idm-alone-spec =
     tie.close
     (tie.spec
     (λ c κs. tt)
-    (λ c. search needs)
-    (λ c. search needs)
+    (λ c. c .match .keys1)
+    (λ c. c .match .keys2)
     (λ c κs. tt)
     (λ c κs. tt)
     returns
     (λ c κs. tt)
-    (λ c. search needs)
-    (λ c. search needs)
+    (λ c. c .match2 .keys1)
+    (λ c. c .match2 .keys2)
     (λ c κs. tt)
     (λ c κs. tt)
     returns-2

@@ -1,6 +1,5 @@
 -- `parse_read_without_encryption` meets its contract: a walk along its layout, by what each step says.
 -- Assumes nothing.
-use borrow.Author.Needs.{needs}
 use mathlib.Core.Path.{refl, ap, _∙_, subst}
 use Prim.Native.Nat.{_+_}
 use native.Mathlib.Omega.{arith}
@@ -28,7 +27,9 @@ returns c =
     let start = at-idm .before .before in
     let s = now (start .args .payload) in
     let idm = at-idm .take-idm .ensures .0 ∙ ap (idmStep s (at-idm .take-idm .result .idm)) (c .before .before .enum-told .given .1) in
-    refused-at s 1 0x06 _ _ _ _ layout-06 (body 0x06 _ (drop 1 s) ∙ stop _ idm) (c .before .ground .ensures ∙ ap movedGround (c .before .before .enum-told .given .1)) (c .refused .ensures)
+    refused-at s 1 0x06 _ _ _ _ layout-06
+    (body 0x06 _ (drop 1 s) ∙ stop _ idm)
+    (c .before .ground .ensures ∙ ap movedGround (c .before .before .enum-told .given .1)) (c .refused .ensures)
 
 returns-2 : tie.Need-returns-2
 returns-2 c =
@@ -38,7 +39,9 @@ returns-2 c =
     let s = now (start .args .payload) in
     let idm = at-idm .take-idm .ensures .0 ∙ ap (idmStep s (at-idm .take-idm .result .idm)) (at-first .before .before .step .given .1) in
     let first = at-first .take-u16-list .ensures .0 ∙ ap (codesTaken s) (c .before .before .enum-told2 .given .1) in
-    refused-at s 1 0x06 _ _ _ _ layout-06 (body 0x06 _ (drop 1 s) ∙ on _ idm (on _ (no-selector _) (stop _ first))) (c .before .ground2 .ensures ∙ ap listGround (c .before .before .enum-told2 .given .1)) (c .refused2 .ensures)
+    refused-at s 1 0x06 _ _ _ _ layout-06
+    (body 0x06 _ (drop 1 s) ∙ on _ idm (on _ (no-selector _) (stop _ first)))
+    (c .before .ground2 .ensures ∙ ap listGround (c .before .before .enum-told2 .given .1)) (c .refused2 .ensures)
 
 returns-3 : tie.Need-returns-3
 returns-3 c =
@@ -50,7 +53,9 @@ returns-3 c =
     let idm = at-idm .take-idm .ensures .0 ∙ ap (idmStep s (at-idm .take-idm .result .idm)) (at-first .before .before .step .given .1) in
     let first = at-first .take-u16-list .ensures .0 ∙ ap (codesTaken s) (at-elements .before .before .listed .given .1) in
     let elements = at-elements .take-block-list .ensures .0 ∙ ap (elementsTaken s) (c .before .before .enum-told3 .given .1) in
-    refused-at s 1 0x06 _ _ _ _ layout-06 (body 0x06 _ (drop 1 s) ∙ on _ idm (on _ (no-selector _) (on _ first (on _ (no-codes _ _ _) (stop _ elements))))) (c .before .ground3 .ensures ∙ ap listGround (c .before .before .enum-told3 .given .1)) (c .refused3 .ensures)
+    refused-at s 1 0x06 _ _ _ _ layout-06
+    (body 0x06 _ (drop 1 s) ∙ on _ idm (on _ (no-selector _) (on _ first (on _ (no-codes _ _ _) (stop _ elements)))))
+    (c .before .ground3 .ensures ∙ ap listGround (c .before .before .enum-told3 .given .1)) (c .refused3 .ensures)
 
 returns-4 : tie.Need-returns-4
 returns-4 c =
@@ -64,7 +69,9 @@ returns-4 c =
     let first = at-first .take-u16-list .ensures .0 ∙ ap (codesTaken s) (at-elements .before .before .listed .given .1) in
     let elements = at-elements .take-block-list .ensures .0 ∙ ap (elementsTaken s) (at-ending .before .before .elements .given .1) in
     let ending = at-ending .take-end .ensures .0 ∙ ap (endStep s (zeros 16)) (c .before .before .enum-told5 .given .1) in
-    refused-at s 1 0x06 _ _ _ _ layout-06 (body 0x06 _ (drop 1 s) ∙ on _ idm (on _ (no-selector _) (on _ first (on _ (no-codes _ _ _) (on _ elements (on _ (no-data _ _) (stop _ ending))))))) (c .before .ground4 .ensures ∙ ap movedGround (c .before .before .enum-told5 .given .1)) (c .refused4 .ensures)
+    refused-at s 1 0x06 _ _ _ _ layout-06
+    (body 0x06 _ (drop 1 s) ∙ on _ idm (on _ (no-selector _) (on _ first (on _ (no-codes _ _ _) (on _ elements (on _ (no-data _ _) (stop _ ending)))))))
+    (c .before .ground4 .ensures ∙ ap movedGround (c .before .before .enum-told5 .given .1)) (c .refused4 .ensures)
 
 returns-5 : tie.Need-returns-5
 unfolding layoutPlaces wordsOf readEach
@@ -84,7 +91,9 @@ returns-5 c =
     let placed-elements = subst (λ (x : ListTaken). ElementsPlaced s (at-elements .before .before .listed .given .0 .1 .0 .at + 1) x) (at-ending .before .before .elements .given .1) (at-elements .take-block-list .ensures .1) in
     let codes = at-elements .before .before .listed .given .0 .0 in
     let count = wordsOf-length (codes .count) (drop (codes .start) s) in
-    accepted-at s 1 0x06 _ (ReadWithoutEncryption codes (at-ending .before .before .elements .given .0 .0)) _ (at-idm .take-idm .result .idm) (zeros 16) _ _ layout-06 refl (body 0x06 _ (drop 1 s) ∙ on _ idm (on _ (no-selector _) (on _ first (on _ (no-codes _ _ _) (on _ elements (on _ (no-data _ _) (on _ ending (on _ (no-package _) refl)))))))) refl refl
+    accepted-at s 1 0x06 _ (ReadWithoutEncryption codes (at-ending .before .before .elements .given .0 .0)) _ (at-idm .take-idm .result .idm) (zeros 16) _ _ layout-06 refl
+    (body 0x06 _ (drop 1 s) ∙ on _ idm (on _ (no-selector _) (on _ first (on _ (no-codes _ _ _) (on _ elements (on _ (no-data _ _) (on _ ending (on _ (no-package _) refl))))))))
+    refl refl
     (places-eq
     (codes-part s codes _ (omega (arith, placed-first .0, behind-idm))) refl
     (elements-part s (at-ending .before .before .elements .given .0 .0) _ (omega (arith, placed-elements .0, placed-first .1, behind-idm, count)) (placed-elements .1)) refl refl) refl
@@ -94,26 +103,26 @@ parse-read-without-encryption-spec =
     tie.close
     (tie.spec
     (λ c κs. tt)
-    (λ c. search needs)
-    (λ c. search needs)
+    (λ c. c .match .keys1)
+    (λ c. c .match .keys2)
     (λ c κs. tt)
     (λ c κs. tt)
     returns
     (λ c κs. tt)
-    (λ c. search needs)
-    (λ c. search needs)
+    (λ c. c .match2 .keys1)
+    (λ c. c .match2 .keys2)
     (λ c κs. tt)
     (λ c κs. tt)
     returns-2
     (λ c κs. tt)
-    (λ c. search needs)
-    (λ c. search needs)
+    (λ c. c .match3 .keys1)
+    (λ c. c .match3 .keys2)
     (λ c κs. tt)
     (λ c κs. tt)
     returns-3
     (λ c κs. tt)
-    (λ c. search needs)
-    (λ c. search needs)
+    (λ c. c .match4 .keys1)
+    (λ c. c .match4 .keys2)
     (λ c κs. tt)
     (λ c κs. tt)
     returns-4

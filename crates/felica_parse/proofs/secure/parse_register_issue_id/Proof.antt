@@ -1,6 +1,5 @@
 -- `parse_register_issue_id` meets its contract: a walk along its layout, by what each step says.
 -- Assumes nothing.
-use borrow.Author.Needs.{needs}
 use mathlib.Core.Path.{refl, ap, _∙_, subst}
 use denote.Ref.{now}
 use lib.ListN.{drop}
@@ -24,7 +23,9 @@ returns c =
     let start = at-ending .before .before in
     let s = now (start .args .payload) in
     let ending = at-ending .take-issue .ensures .0 ∙ ap (endStep s (at-ending .take-issue .result .challenge)) (c .before .before .enum-told .given .1) in
-    refused-at s 0 0x80 _ _ _ _ layout-80 (body 0x80 _ (drop 0 s) ∙ on _ (no-idm _) (on _ (no-selector _) (on _ (no-codes _ _ _) (on _ (no-codes _ _ _) (on _ (no-elements _ _ _) (on _ (no-data _ _) (stop _ ending))))))) (c .before .ground .ensures ∙ ap movedGround (c .before .before .enum-told .given .1)) (c .refused .ensures)
+    refused-at s 0 0x80 _ _ _ _ layout-80
+    (body 0x80 _ (drop 0 s) ∙ on _ (no-idm _) (on _ (no-selector _) (on _ (no-codes _ _ _) (on _ (no-codes _ _ _) (on _ (no-elements _ _ _) (on _ (no-data _ _) (stop _ ending)))))))
+    (c .before .ground .ensures ∙ ap movedGround (c .before .before .enum-told .given .1)) (c .refused .ensures)
 
 returns-2 : tie.Need-returns-2
 unfolding layoutPlaces wordsOf readEach
@@ -34,7 +35,9 @@ returns-2 c =
     let s = now (start .args .payload) in
     let ending = at-ending .take-issue .ensures .0 ∙ ap (endStep s (at-ending .take-issue .result .challenge)) (c .before .before .before .end .given .1) in
     let behind-ending = subst (λ (x : Moved). MovesTo 16 (movedWith (endFields 0 0 0 0 (at-ending .take-issue .result .challenge)) x)) (c .before .before .before .end .given .1) (at-ending .take-issue .ensures .1) in
-    accepted-at s 0 0x80 _ (RegisterIssueId (c .before .«package» .result)) _ (zeros 8) (at-ending .take-issue .result .challenge) _ _ layout-80 refl (body 0x80 _ (drop 0 s) ∙ on _ (no-idm _) (on _ (no-selector _) (on _ (no-codes _ _ _) (on _ (no-codes _ _ _) (on _ (no-elements _ _ _) (on _ (no-data _ _) (on _ ending (on _ (whole-package _) refl)))))))) (rw (package-bytes s (c .before .«package» .result) _ (c .before .«package» .ensures)) refl) refl
+    accepted-at s 0 0x80 _ (RegisterIssueId (c .before .«package» .result)) _ (zeros 8) (at-ending .take-issue .result .challenge) _ _ layout-80 refl
+    (body 0x80 _ (drop 0 s) ∙ on _ (no-idm _) (on _ (no-selector _) (on _ (no-codes _ _ _) (on _ (no-codes _ _ _) (on _ (no-elements _ _ _) (on _ (no-data _ _) (on _ ending (on _ (whole-package _) refl))))))))
+    (rw (package-bytes s (c .before .«package» .result) _ (c .before .«package» .ensures)) refl) refl
     (places-eq refl refl refl refl (package-part s (c .before .«package» .result) _ _ (c .before .«package» .ensures) behind-ending)) refl
 
 pub parse-register-issue-id-spec : {M : Type 1} → statement M
@@ -42,8 +45,8 @@ parse-register-issue-id-spec =
     tie.close
     (tie.spec
     (λ c κs. tt)
-    (λ c. search needs)
-    (λ c. search needs)
+    (λ c. c .match .keys1)
+    (λ c. c .match .keys2)
     (λ c κs. tt)
     (λ c κs. tt)
     returns

@@ -24,7 +24,9 @@ returns c =
     let start = at-elements .before .before in
     let s = now (start .args .payload) in
     let elements = at-elements .take-block-list .ensures .0 ∙ ap (elementsTaken s) (c .before .before .enum-told .given .1) in
-    refused-at s 0 (start .args .command-code) _ _ _ _ (write-layout (start .args .command-code) (start .pre)) (body (start .args .command-code) _ (drop 0 s) ∙ on _ (no-idm _) (on _ (no-selector _) (on _ (no-codes _ _ _) (on _ (no-codes _ _ _) (stop _ elements))))) (c .before .ground .ensures ∙ ap listGround (c .before .before .enum-told .given .1)) (c .refused .ensures)
+    refused-at s 0 (start .args .command-code) _ _ _ _ (write-layout (start .args .command-code) (start .pre))
+    (body (start .args .command-code) _ (drop 0 s) ∙ on _ (no-idm _) (on _ (no-selector _) (on _ (no-codes _ _ _) (on _ (no-codes _ _ _) (stop _ elements)))))
+    (c .before .ground .ensures ∙ ap listGround (c .before .before .enum-told .given .1)) (c .refused .ensures)
 
 returns-2 : tie.Need-returns-2
 returns-2 c =
@@ -35,7 +37,9 @@ returns-2 c =
     let elements = at-elements .take-block-list .ensures .0 ∙ ap (elementsTaken s) (at-bytes .before .before .elements .given .1) in
     let placed-elements = subst (λ (x : ListTaken). ElementsPlaced s (0 + 1) x) (at-bytes .before .before .elements .given .1) (at-elements .take-block-list .ensures .1) in
     let bytes = data-counted (elementsAt s (at-bytes .before .before .elements .given .0 .0)) _ _ (placed-elements .1) (at-bytes .take-data .ensures .0 ∙ ap (dataTaken s) (c .before .before .enum-told2 .given .1)) in
-    refused-at s 0 (start .args .command-code) _ _ _ _ (write-layout (start .args .command-code) (start .pre)) (body (start .args .command-code) _ (drop 0 s) ∙ on _ (no-idm _) (on _ (no-selector _) (on _ (no-codes _ _ _) (on _ (no-codes _ _ _) (on _ elements (stop _ bytes)))))) (c .before .ground2 .ensures ∙ ap listGround (c .before .before .enum-told2 .given .1)) (c .refused2 .ensures)
+    refused-at s 0 (start .args .command-code) _ _ _ _ (write-layout (start .args .command-code) (start .pre))
+    (body (start .args .command-code) _ (drop 0 s) ∙ on _ (no-idm _) (on _ (no-selector _) (on _ (no-codes _ _ _) (on _ (no-codes _ _ _) (on _ elements (stop _ bytes))))))
+    (c .before .ground2 .ensures ∙ ap listGround (c .before .before .enum-told2 .given .1)) (c .refused2 .ensures)
 
 returns-3 : tie.Need-returns-3
 unfolding layoutPlaces wordsOf readEach
@@ -49,7 +53,9 @@ returns-3 c =
     let bytes = data-counted (elementsAt s (at-bytes .before .before .elements .given .0 .0)) _ _ (placed-elements .1) (at-bytes .take-data .ensures .0 ∙ ap (dataTaken s) (c .before .before .bytes .given .1)) in
     let placed-data = subst (λ (x : ListTaken). DataPlaced (at-bytes .before .before .elements .given .0 .1 .0 .at) (at-bytes .before .before .elements .given .0 .0 .count) x) (c .before .before .bytes .given .1) (at-bytes .take-data .ensures .1) in
     let read-data = at-bytes .take-data .ensures .0 ∙ ap (dataTaken s) (c .before .before .bytes .given .1) in
-    accepted-at s 0 (start .args .command-code) _ (c .write-kind .result) _ (zeros 8) (zeros 16) _ _ (write-layout (start .args .command-code) (start .pre)) (c .write-kind .ensures) (body (start .args .command-code) _ (drop 0 s) ∙ on _ (no-idm _) (on _ (no-selector _) (on _ (no-codes _ _ _) (on _ (no-codes _ _ _) (on _ elements (on _ bytes (on _ (ignored-ending _) (on _ (ignored-package _) refl)))))))) refl refl
+    accepted-at s 0 (start .args .command-code) _ (c .write-kind .result) _ (zeros 8) (zeros 16) _ _ (write-layout (start .args .command-code) (start .pre)) (c .write-kind .ensures)
+    (body (start .args .command-code) _ (drop 0 s) ∙ on _ (no-idm _) (on _ (no-selector _) (on _ (no-codes _ _ _) (on _ (no-codes _ _ _) (on _ elements (on _ bytes (on _ (ignored-ending _) (on _ (ignored-package _) refl))))))))
+    refl refl
     (places-eq refl refl (elements-part s (at-bytes .before .before .elements .given .0 .0) _ (placed-elements .0) (placed-elements .1))
     (data-part s (c .before .before .bytes .given .0 .0) _ _ _ _ _ read-data (placed-data .0) (behind-blocks s (at-bytes .before .before .elements .given .0 .0) 0 _ 0 (placed-elements .1) (placed-elements .2) refl)) refl) refl
 
@@ -58,14 +64,14 @@ parse-write-spec =
     tie.close
     (tie.spec
     (λ c κs. tt)
-    (λ c. search needs)
-    (λ c. search needs)
+    (λ c. c .match .keys1)
+    (λ c. c .match .keys2)
     (λ c κs. tt)
     (λ c κs. tt)
     returns
     (λ c κs. tt)
-    (λ c. search needs)
-    (λ c. search needs)
+    (λ c. c .match2 .keys1)
+    (λ c. c .match2 .keys2)
     (λ c κs. tt)
     (λ c κs. tt)
     returns-2
