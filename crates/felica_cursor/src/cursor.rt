@@ -209,6 +209,30 @@ impl Cursor {
         cursor.take_u16s(payload, count)
     }
 
+    // A list of codes whose count is the first of its command.
+    pub fn take_first_codes(self, payload: &[u8], row: usize) -> ListTaken
+        ensures { λ r. ⌜ (readCodes 9 10 (boundsAt row .least to boundsAt row .greatest) (drop (self .at) (now (payload .entry))) ≡ codesTaken (now (payload .entry)) r) × CodesPlaced (self .at + 1) r ⌝ }
+    {
+        self.take_u16_list(
+            payload,
+            row,
+            error::FIRST_COUNT_MISSING,
+            error::FIRST_COUNT_OUT_OF_RANGE,
+        )
+    }
+
+    // One whose count is the second.
+    pub fn take_second_codes(self, payload: &[u8], row: usize) -> ListTaken
+        ensures { λ r. ⌜ (readCodes 11 12 (boundsAt row .least to boundsAt row .greatest) (drop (self .at) (now (payload .entry))) ≡ codesTaken (now (payload .entry)) r) × CodesPlaced (self .at + 1) r ⌝ }
+    {
+        self.take_u16_list(
+            payload,
+            row,
+            error::SECOND_COUNT_MISSING,
+            error::SECOND_COUNT_OUT_OF_RANGE,
+        )
+    }
+
     // Bit 7 set: one byte of block number follows. Bit 7 clear: two bytes.
     pub fn take_element(self, payload: &[u8]) -> ElementTaken
         ensures { λ r. ⌜ (readElement (drop (self .at) (now (payload .entry))) ≡ elementTaken (now (payload .entry)) r) × ElementPlaced (now (payload .entry)) (self .at) r ⌝ }
@@ -267,6 +291,28 @@ impl Cursor {
             return ListTaken::Refused(counted.ground());
         };
         cursor.take_elements(payload, count)
+    }
+
+    // The blocks of a secure command: their count is the first.
+    pub fn take_first_blocks(self, payload: &[u8]) -> ListTaken
+        ensures { λ r. ⌜ (readElements 9 10 true (drop (self .at) (now (payload .entry))) ≡ elementsTaken (now (payload .entry)) r) × ElementsPlaced (now (payload .entry)) (self .at + 1) r ⌝ }
+    {
+        self.take_block_list(
+            payload,
+            error::FIRST_COUNT_MISSING,
+            error::FIRST_COUNT_OUT_OF_RANGE,
+        )
+    }
+
+    // Blocks behind a list of codes.
+    pub fn take_second_blocks(self, payload: &[u8]) -> ListTaken
+        ensures { λ r. ⌜ (readElements 11 12 true (drop (self .at) (now (payload .entry))) ≡ elementsTaken (now (payload .entry)) r) × ElementsPlaced (now (payload .entry)) (self .at + 1) r ⌝ }
+    {
+        self.take_block_list(
+            payload,
+            error::SECOND_COUNT_MISSING,
+            error::SECOND_COUNT_OUT_OF_RANGE,
+        )
     }
 
     // 16 bytes for each block.

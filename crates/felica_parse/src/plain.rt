@@ -20,7 +20,6 @@ use felica_cursor::answers::WordTaken;
 use felica_cursor::answers::WordsTaken;
 use felica_cursor::cursor::Cursor;
 use felica_format::constants;
-use felica_format::error;
 
 // Rows of the table of bounds. The codes of `parse_code_list` have equal bounds, and the first one's row serves them all.
 const REQUEST_SERVICE_ROW: usize = 1;
@@ -65,12 +64,7 @@ pub(crate) fn parse_code_list(payload: &[u8], command_code: u8) -> Parsed
     let Moved::On(behind_idm) = step else {
         return Parsed::refused(step.ground(), command_code);
     };
-    let listed = behind_idm.take_u16_list(
-        payload,
-        REQUEST_SERVICE_ROW,
-        error::FIRST_COUNT_MISSING,
-        error::FIRST_COUNT_OUT_OF_RANGE,
-    );
+    let listed = behind_idm.take_first_codes(payload, REQUEST_SERVICE_ROW);
     let ListTaken::List(codes, behind_codes) = listed else {
         return Parsed::refused(listed.ground(), command_code);
     };
@@ -123,23 +117,14 @@ pub(crate) fn parse_read_without_encryption(payload: &[u8]) -> Parsed
             constants::READ_WITHOUT_ENCRYPTION_COMMAND_CODE,
         );
     };
-    let listed = behind_idm.take_u16_list(
-        payload,
-        READ_WITHOUT_ENCRYPTION_ROW,
-        error::FIRST_COUNT_MISSING,
-        error::FIRST_COUNT_OUT_OF_RANGE,
-    );
+    let listed = behind_idm.take_first_codes(payload, READ_WITHOUT_ENCRYPTION_ROW);
     let ListTaken::List(service_codes, behind_codes) = listed else {
         return Parsed::refused(
             listed.ground(),
             constants::READ_WITHOUT_ENCRYPTION_COMMAND_CODE,
         );
     };
-    let elements = behind_codes.take_block_list(
-        payload,
-        error::SECOND_COUNT_MISSING,
-        error::SECOND_COUNT_OUT_OF_RANGE,
-    );
+    let elements = behind_codes.take_second_blocks(payload);
     let ListTaken::List(block_list, behind_blocks) = elements else {
         return Parsed::refused(
             elements.ground(),
@@ -176,23 +161,14 @@ pub(crate) fn parse_write_without_encryption(payload: &[u8]) -> Parsed
             constants::WRITE_WITHOUT_ENCRYPTION_COMMAND_CODE,
         );
     };
-    let listed = behind_idm.take_u16_list(
-        payload,
-        WRITE_WITHOUT_ENCRYPTION_ROW,
-        error::FIRST_COUNT_MISSING,
-        error::FIRST_COUNT_OUT_OF_RANGE,
-    );
+    let listed = behind_idm.take_first_codes(payload, WRITE_WITHOUT_ENCRYPTION_ROW);
     let ListTaken::List(service_codes, behind_codes) = listed else {
         return Parsed::refused(
             listed.ground(),
             constants::WRITE_WITHOUT_ENCRYPTION_COMMAND_CODE,
         );
     };
-    let elements = behind_codes.take_block_list(
-        payload,
-        error::SECOND_COUNT_MISSING,
-        error::SECOND_COUNT_OUT_OF_RANGE,
-    );
+    let elements = behind_codes.take_second_blocks(payload);
     let ListTaken::List(block_list, behind_blocks) = elements else {
         return Parsed::refused(
             elements.ground(),
@@ -258,21 +234,11 @@ pub(crate) fn parse_authentication1(payload: &[u8]) -> Parsed
     let Moved::On(behind_idm) = step else {
         return Parsed::refused(step.ground(), constants::AUTHENTICATION1_COMMAND_CODE);
     };
-    let listed = behind_idm.take_u16_list(
-        payload,
-        AUTHENTICATION1_ROW,
-        error::FIRST_COUNT_MISSING,
-        error::FIRST_COUNT_OUT_OF_RANGE,
-    );
+    let listed = behind_idm.take_first_codes(payload, AUTHENTICATION1_ROW);
     let ListTaken::List(areas, behind_areas) = listed else {
         return Parsed::refused(listed.ground(), constants::AUTHENTICATION1_COMMAND_CODE);
     };
-    let listed_services = behind_areas.take_u16_list(
-        payload,
-        AUTHENTICATION1_ROW,
-        error::SECOND_COUNT_MISSING,
-        error::SECOND_COUNT_OUT_OF_RANGE,
-    );
+    let listed_services = behind_areas.take_second_codes(payload, AUTHENTICATION1_ROW);
     let ListTaken::List(services, behind_services) = listed_services else {
         return Parsed::refused(
             listed_services.ground(),
@@ -404,12 +370,7 @@ pub(crate) fn parse_get_node_property(payload: &[u8]) -> Parsed
     let PropertyTypeTaken::Property(node_property_type, behind_type) = taken else {
         return Parsed::refused(taken.ground(), constants::GET_NODE_PROPERTY_COMMAND_CODE);
     };
-    let listed = behind_type.take_u16_list(
-        payload,
-        GET_NODE_PROPERTY_ROW,
-        error::FIRST_COUNT_MISSING,
-        error::FIRST_COUNT_OUT_OF_RANGE,
-    );
+    let listed = behind_type.take_first_codes(payload, GET_NODE_PROPERTY_ROW);
     let ListTaken::List(node_codes, behind_codes) = listed else {
         return Parsed::refused(listed.ground(), constants::GET_NODE_PROPERTY_COMMAND_CODE);
     };
@@ -460,12 +421,7 @@ pub(crate) fn parse_authentication1_v2(payload: &[u8]) -> Parsed
     let ByteTaken::Byte(operation_parameter, behind_parameter) = taken else {
         return Parsed::refused(taken.ground(), constants::AUTHENTICATION1_V2_COMMAND_CODE);
     };
-    let listed = behind_parameter.take_u16_list(
-        payload,
-        AUTHENTICATION1_V2_ROW,
-        error::FIRST_COUNT_MISSING,
-        error::FIRST_COUNT_OUT_OF_RANGE,
-    );
+    let listed = behind_parameter.take_first_codes(payload, AUTHENTICATION1_V2_ROW);
     let ListTaken::List(nodes, behind_nodes) = listed else {
         return Parsed::refused(listed.ground(), constants::AUTHENTICATION1_V2_COMMAND_CODE);
     };

@@ -12,7 +12,6 @@ use felica_cursor::answers::Moved;
 use felica_cursor::answers::WordTaken;
 use felica_cursor::cursor::Cursor;
 use felica_format::constants;
-use felica_format::error;
 
 // Read and Read v2: bytes behind the block list are ignored.
 pub(crate) fn parse_read(payload: &[u8], command_code: u8) -> Parsed
@@ -20,11 +19,7 @@ pub(crate) fn parse_read(payload: &[u8], command_code: u8) -> Parsed
     ensures { λ r. ⌜ BodyRead (now (payload .entry)) 0 «command_code» r ⌝ }
 {
     let start = Cursor { at: 0 };
-    let elements = start.take_block_list(
-        payload,
-        error::FIRST_COUNT_MISSING,
-        error::FIRST_COUNT_OUT_OF_RANGE,
-    );
+    let elements = start.take_first_blocks(payload);
     let ListTaken::List(block_list, _) = elements else {
         return Parsed::refused(elements.ground(), command_code);
     };
@@ -42,11 +37,7 @@ pub(crate) fn parse_write(payload: &[u8], command_code: u8) -> Parsed
     ensures { λ r. ⌜ BodyRead (now (payload .entry)) 0 «command_code» r ⌝ }
 {
     let start = Cursor { at: 0 };
-    let elements = start.take_block_list(
-        payload,
-        error::FIRST_COUNT_MISSING,
-        error::FIRST_COUNT_OUT_OF_RANGE,
-    );
+    let elements = start.take_first_blocks(payload);
     let ListTaken::List(block_list, behind_blocks) = elements else {
         return Parsed::refused(elements.ground(), command_code);
     };

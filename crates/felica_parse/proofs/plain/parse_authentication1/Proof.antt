@@ -37,7 +37,7 @@ returns-2 c =
     let start = at-idm .before .before in
     let s = now (start .args .payload) in
     let idm = at-idm .take-idm .ensures .0 ∙ ap (idmStep s (at-idm .take-idm .result .idm)) (at-first .before .before .step .given .1) in
-    let first = at-first .take-u16-list .ensures .0 ∙ ap (codesTaken s) (c .before .before .enum-told2 .given .1) in
+    let first = at-first .take-first-codes .ensures .0 ∙ ap (codesTaken s) (c .before .before .enum-told2 .given .1) in
     refused-at s 1 0x10 _ _ _ _ layout-10
     (body 0x10 _ (drop 1 s) ∙ on _ idm (on _ (no-selector _) (stop _ first)))
     (c .before .ground2 .ensures ∙ ap listGround (c .before .before .enum-told2 .given .1)) (c .refused2 .ensures)
@@ -50,8 +50,8 @@ returns-3 c =
     let start = at-idm .before .before in
     let s = now (start .args .payload) in
     let idm = at-idm .take-idm .ensures .0 ∙ ap (idmStep s (at-idm .take-idm .result .idm)) (at-first .before .before .step .given .1) in
-    let first = at-first .take-u16-list .ensures .0 ∙ ap (codesTaken s) (at-second .before .before .listed .given .1) in
-    let second = at-second .take-u16-list2 .ensures .0 ∙ ap (codesTaken s) (c .before .before .enum-told3 .given .1) in
+    let first = at-first .take-first-codes .ensures .0 ∙ ap (codesTaken s) (at-second .before .before .listed .given .1) in
+    let second = at-second .take-second-codes .ensures .0 ∙ ap (codesTaken s) (c .before .before .enum-told3 .given .1) in
     refused-at s 1 0x10 _ _ _ _ layout-10
     (body 0x10 _ (drop 1 s) ∙ on _ idm (on _ (no-selector _) (on _ first (stop _ second))))
     (c .before .ground3 .ensures ∙ ap listGround (c .before .before .enum-told3 .given .1)) (c .refused3 .ensures)
@@ -65,8 +65,8 @@ returns-4 c =
     let start = at-idm .before .before in
     let s = now (start .args .payload) in
     let idm = at-idm .take-idm .ensures .0 ∙ ap (idmStep s (at-idm .take-idm .result .idm)) (at-first .before .before .step .given .1) in
-    let first = at-first .take-u16-list .ensures .0 ∙ ap (codesTaken s) (at-second .before .before .listed .given .1) in
-    let second = at-second .take-u16-list2 .ensures .0 ∙ ap (codesTaken s) (at-ending .before .before .listed-services .given .1) in
+    let first = at-first .take-first-codes .ensures .0 ∙ ap (codesTaken s) (at-second .before .before .listed .given .1) in
+    let second = at-second .take-second-codes .ensures .0 ∙ ap (codesTaken s) (at-ending .before .before .listed-services .given .1) in
     let ending = at-ending .take-challenge-8 .ensures .0 ∙ ap (endStep s (at-ending .take-challenge-8 .result .challenge)) (c .before .before .enum-told5 .given .1) in
     refused-at s 1 0x10 _ _ _ _ layout-10
     (body 0x10 _ (drop 1 s) ∙ on _ idm (on _ (no-selector _) (on _ first (on _ second (on _ (no-elements _ _ _) (on _ (no-data _ _) (stop _ ending)))))))
@@ -82,12 +82,12 @@ returns-5 c =
     let start = at-idm .before .before in
     let s = now (start .args .payload) in
     let idm = at-idm .take-idm .ensures .0 ∙ ap (idmStep s (at-idm .take-idm .result .idm)) (at-first .before .before .step .given .1) in
-    let first = at-first .take-u16-list .ensures .0 ∙ ap (codesTaken s) (at-second .before .before .listed .given .1) in
-    let second = at-second .take-u16-list2 .ensures .0 ∙ ap (codesTaken s) (at-ending .before .before .listed-services .given .1) in
+    let first = at-first .take-first-codes .ensures .0 ∙ ap (codesTaken s) (at-second .before .before .listed .given .1) in
+    let second = at-second .take-second-codes .ensures .0 ∙ ap (codesTaken s) (at-ending .before .before .listed-services .given .1) in
     let ending = at-ending .take-challenge-8 .ensures .0 ∙ ap (endStep s (at-ending .take-challenge-8 .result .challenge)) (c .before .before .enum-told4 .given .1) in
     let behind-idm = subst (λ (x : Moved). MovesTo 9 (movedWith (at-idm .take-idm .result .idm) x)) (at-first .before .before .step .given .1) (at-idm .take-idm .ensures .1) in
-    let placed-first = subst (λ (x : ListTaken). CodesPlaced (at-first .before .before .step .given .0 .0 .at + 1) x) (at-second .before .before .listed .given .1) (at-first .take-u16-list .ensures .1) in
-    let placed-second = subst (λ (x : ListTaken). CodesPlaced (at-second .before .before .listed .given .0 .1 .0 .at + 1) x) (at-ending .before .before .listed-services .given .1) (at-second .take-u16-list2 .ensures .1) in
+    let placed-first = subst (λ (x : ListTaken). CodesPlaced (at-first .before .before .step .given .0 .0 .at + 1) x) (at-second .before .before .listed .given .1) (at-first .take-first-codes .ensures .1) in
+    let placed-second = subst (λ (x : ListTaken). CodesPlaced (at-second .before .before .listed .given .0 .1 .0 .at + 1) x) (at-ending .before .before .listed-services .given .1) (at-second .take-second-codes .ensures .1) in
     let codes = at-second .before .before .listed .given .0 .0 in
     let count = wordsOf-length (codes .count) (drop (codes .start) s) in
     accepted-at s 1 0x10 _ (Authentication1 codes (at-ending .before .before .listed-services .given .0 .0)) _ (at-idm .take-idm .result .idm) (at-ending .take-challenge-8 .result .challenge) _ _ layout-10 refl

@@ -51,7 +51,7 @@ returns-3 c =
     let s = now (start .args .payload) in
     let idm = at-idm .take-idm .ensures .0 ∙ ap (idmStep s (at-idm .take-idm .result .idm)) (at-selector .before .before .step .given .1) in
     let selector = at-selector .take-operation-parameter .ensures .0 ∙ ap (byteStep s) (at-first .before .before .taken .given .1) in
-    let first = at-first .take-u16-list .ensures .0 ∙ ap (codesTaken s) (c .before .before .enum-told3 .given .1) in
+    let first = at-first .take-first-codes .ensures .0 ∙ ap (codesTaken s) (c .before .before .enum-told3 .given .1) in
     refused-at s 1 0x40 _ _ _ _ layout-40
     (body 0x40 _ (drop 1 s) ∙ on _ idm (on _ selector (stop _ first)))
     (c .before .ground3 .ensures ∙ ap listGround (c .before .before .enum-told3 .given .1)) (c .refused3 .ensures)
@@ -66,7 +66,7 @@ returns-4 c =
     let s = now (start .args .payload) in
     let idm = at-idm .take-idm .ensures .0 ∙ ap (idmStep s (at-idm .take-idm .result .idm)) (at-selector .before .before .step .given .1) in
     let selector = at-selector .take-operation-parameter .ensures .0 ∙ ap (byteStep s) (at-first .before .before .taken .given .1) in
-    let first = at-first .take-u16-list .ensures .0 ∙ ap (codesTaken s) (at-ending .before .before .listed .given .1) in
+    let first = at-first .take-first-codes .ensures .0 ∙ ap (codesTaken s) (at-ending .before .before .listed .given .1) in
     let ending = at-ending .take-challenge-16 .ensures .0 ∙ ap (endStep s (at-ending .take-challenge-16 .result .challenge)) (c .before .before .enum-told5 .given .1) in
     refused-at s 1 0x40 _ _ _ _ layout-40
     (body 0x40 _ (drop 1 s) ∙ on _ idm (on _ selector (on _ first (on _ (no-codes _ _ _) (on _ (no-elements _ _ _) (on _ (no-data _ _) (stop _ ending)))))))
@@ -83,11 +83,11 @@ returns-5 c =
     let s = now (start .args .payload) in
     let idm = at-idm .take-idm .ensures .0 ∙ ap (idmStep s (at-idm .take-idm .result .idm)) (at-selector .before .before .step .given .1) in
     let selector = at-selector .take-operation-parameter .ensures .0 ∙ ap (byteStep s) (at-first .before .before .taken .given .1) in
-    let first = at-first .take-u16-list .ensures .0 ∙ ap (codesTaken s) (at-ending .before .before .listed .given .1) in
+    let first = at-first .take-first-codes .ensures .0 ∙ ap (codesTaken s) (at-ending .before .before .listed .given .1) in
     let ending = at-ending .take-challenge-16 .ensures .0 ∙ ap (endStep s (at-ending .take-challenge-16 .result .challenge)) (c .before .before .enum-told4 .given .1) in
     let behind-idm = subst (λ (x : Moved). MovesTo 9 (movedWith (at-idm .take-idm .result .idm) x)) (at-selector .before .before .step .given .1) (at-idm .take-idm .ensures .1) in
     let behind-selector = subst (λ (x : ByteTaken). MovesTo (at-selector .before .before .step .given .0 .0 .at + 1) (byteTaken x)) (at-first .before .before .taken .given .1) (at-selector .take-operation-parameter .ensures .1) in
-    let placed-first = subst (λ (x : ListTaken). CodesPlaced (at-first .before .before .taken .given .0 .1 .0 .at + 1) x) (at-ending .before .before .listed .given .1) (at-first .take-u16-list .ensures .1) in
+    let placed-first = subst (λ (x : ListTaken). CodesPlaced (at-first .before .before .taken .given .0 .1 .0 .at + 1) x) (at-ending .before .before .listed .given .1) (at-first .take-first-codes .ensures .1) in
     accepted-at s 1 0x40 _ (Authentication1V2 (at-first .before .before .taken .given .0 .0) (at-ending .before .before .listed .given .0 .0)) _ (at-idm .take-idm .result .idm) (at-ending .take-challenge-16 .result .challenge) _ _ layout-40 refl
     (body 0x40 _ (drop 1 s) ∙ on _ idm (on _ selector (on _ first (on _ (no-codes _ _ _) (on _ (no-elements _ _ _) (on _ (no-data _ _) (on _ ending (on _ (no-package _) refl))))))))
     refl refl

@@ -37,7 +37,7 @@ returns-2 c =
     let start = at-idm .before .before in
     let s = now (start .args .payload) in
     let idm = at-idm .take-idm .ensures .0 ∙ ap (idmStep s (at-idm .take-idm .result .idm)) (at-first .before .before .step .given .1) in
-    let first = at-first .take-u16-list .ensures .0 ∙ ap (codesTaken s) (c .before .before .enum-told2 .given .1) in
+    let first = at-first .take-first-codes .ensures .0 ∙ ap (codesTaken s) (c .before .before .enum-told2 .given .1) in
     refused-at s 1 (start .args .command-code) _ _ _ _ (code-list-layout (start .args .command-code) (start .pre))
     (body (start .args .command-code) _ (drop 1 s) ∙ on _ idm (on _ (no-selector _) (stop _ first)))
     (c .before .ground2 .ensures ∙ ap listGround (c .before .before .enum-told2 .given .1)) (c .refused2 .ensures)
@@ -50,7 +50,7 @@ returns-3 c =
     let start = at-idm .before .before in
     let s = now (start .args .payload) in
     let idm = at-idm .take-idm .ensures .0 ∙ ap (idmStep s (at-idm .take-idm .result .idm)) (at-first .before .before .step .given .1) in
-    let first = at-first .take-u16-list .ensures .0 ∙ ap (codesTaken s) (at-ending .before .before .listed .given .1) in
+    let first = at-first .take-first-codes .ensures .0 ∙ ap (codesTaken s) (at-ending .before .before .listed .given .1) in
     let ending = at-ending .take-end .ensures .0 ∙ ap (endStep s (zeros 16)) (c .before .before .enum-told4 .given .1) in
     refused-at s 1 (start .args .command-code) _ _ _ _ (code-list-layout (start .args .command-code) (start .pre))
     (body (start .args .command-code) _ (drop 1 s) ∙ on _ idm (on _ (no-selector _) (on _ first (on _ (no-codes _ _ _) (on _ (no-elements _ _ _) (on _ (no-data _ _) (stop _ ending)))))))
@@ -65,10 +65,10 @@ returns-4 c =
     let start = at-idm .before .before in
     let s = now (start .args .payload) in
     let idm = at-idm .take-idm .ensures .0 ∙ ap (idmStep s (at-idm .take-idm .result .idm)) (at-first .before .before .step .given .1) in
-    let first = at-first .take-u16-list .ensures .0 ∙ ap (codesTaken s) (at-ending .before .before .listed .given .1) in
+    let first = at-first .take-first-codes .ensures .0 ∙ ap (codesTaken s) (at-ending .before .before .listed .given .1) in
     let ending = at-ending .take-end .ensures .0 ∙ ap (endStep s (zeros 16)) (c .before .before .enum-told3 .given .1) in
     let behind-idm = subst (λ (x : Moved). MovesTo 9 (movedWith (at-idm .take-idm .result .idm) x)) (at-first .before .before .step .given .1) (at-idm .take-idm .ensures .1) in
-    let placed-first = subst (λ (x : ListTaken). CodesPlaced (at-first .before .before .step .given .0 .0 .at + 1) x) (at-ending .before .before .listed .given .1) (at-first .take-u16-list .ensures .1) in
+    let placed-first = subst (λ (x : ListTaken). CodesPlaced (at-first .before .before .step .given .0 .0 .at + 1) x) (at-ending .before .before .listed .given .1) (at-first .take-first-codes .ensures .1) in
     accepted-at s 1 (start .args .command-code) _ (c .before .code-list-kind .result) _ (at-idm .take-idm .result .idm) (zeros 16) _ _ (code-list-layout (start .args .command-code) (start .pre)) (c .before .code-list-kind .ensures)
     (body (start .args .command-code) _ (drop 1 s) ∙ on _ idm (on _ (no-selector _) (on _ first (on _ (no-codes _ _ _) (on _ (no-elements _ _ _) (on _ (no-data _ _) (on _ ending (on _ (no-package _) refl))))))))
     refl refl

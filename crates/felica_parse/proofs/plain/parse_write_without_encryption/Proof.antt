@@ -39,7 +39,7 @@ returns-2 c =
     let start = at-idm .before .before in
     let s = now (start .args .payload) in
     let idm = at-idm .take-idm .ensures .0 ∙ ap (idmStep s (at-idm .take-idm .result .idm)) (at-first .before .before .step .given .1) in
-    let first = at-first .take-u16-list .ensures .0 ∙ ap (codesTaken s) (c .before .before .enum-told2 .given .1) in
+    let first = at-first .take-first-codes .ensures .0 ∙ ap (codesTaken s) (c .before .before .enum-told2 .given .1) in
     refused-at s 1 0x08 _ _ _ _ layout-08
     (body 0x08 _ (drop 1 s) ∙ on _ idm (on _ (no-selector _) (stop _ first)))
     (c .before .ground2 .ensures ∙ ap listGround (c .before .before .enum-told2 .given .1)) (c .refused2 .ensures)
@@ -52,8 +52,8 @@ returns-3 c =
     let start = at-idm .before .before in
     let s = now (start .args .payload) in
     let idm = at-idm .take-idm .ensures .0 ∙ ap (idmStep s (at-idm .take-idm .result .idm)) (at-first .before .before .step .given .1) in
-    let first = at-first .take-u16-list .ensures .0 ∙ ap (codesTaken s) (at-elements .before .before .listed .given .1) in
-    let elements = at-elements .take-block-list .ensures .0 ∙ ap (elementsTaken s) (c .before .before .enum-told3 .given .1) in
+    let first = at-first .take-first-codes .ensures .0 ∙ ap (codesTaken s) (at-elements .before .before .listed .given .1) in
+    let elements = at-elements .take-second-blocks .ensures .0 ∙ ap (elementsTaken s) (c .before .before .enum-told3 .given .1) in
     refused-at s 1 0x08 _ _ _ _ layout-08
     (body 0x08 _ (drop 1 s) ∙ on _ idm (on _ (no-selector _) (on _ first (on _ (no-codes _ _ _) (stop _ elements)))))
     (c .before .ground3 .ensures ∙ ap listGround (c .before .before .enum-told3 .given .1)) (c .refused3 .ensures)
@@ -67,9 +67,9 @@ returns-4 c =
     let start = at-idm .before .before in
     let s = now (start .args .payload) in
     let idm = at-idm .take-idm .ensures .0 ∙ ap (idmStep s (at-idm .take-idm .result .idm)) (at-first .before .before .step .given .1) in
-    let first = at-first .take-u16-list .ensures .0 ∙ ap (codesTaken s) (at-elements .before .before .listed .given .1) in
-    let elements = at-elements .take-block-list .ensures .0 ∙ ap (elementsTaken s) (at-bytes .before .before .elements .given .1) in
-    let placed-elements = subst (λ (x : ListTaken). ElementsPlaced s (at-elements .before .before .listed .given .0 .1 .0 .at + 1) x) (at-bytes .before .before .elements .given .1) (at-elements .take-block-list .ensures .1) in
+    let first = at-first .take-first-codes .ensures .0 ∙ ap (codesTaken s) (at-elements .before .before .listed .given .1) in
+    let elements = at-elements .take-second-blocks .ensures .0 ∙ ap (elementsTaken s) (at-bytes .before .before .elements .given .1) in
+    let placed-elements = subst (λ (x : ListTaken). ElementsPlaced s (at-elements .before .before .listed .given .0 .1 .0 .at + 1) x) (at-bytes .before .before .elements .given .1) (at-elements .take-second-blocks .ensures .1) in
     let bytes = data-counted (elementsAt s (at-bytes .before .before .elements .given .0 .0)) _ _ (placed-elements .1) (at-bytes .take-data .ensures .0 ∙ ap (dataTaken s) (c .before .before .enum-told4 .given .1)) in
     refused-at s 1 0x08 _ _ _ _ layout-08
     (body 0x08 _ (drop 1 s) ∙ on _ idm (on _ (no-selector _) (on _ first (on _ (no-codes _ _ _) (on _ elements (stop _ bytes))))))
@@ -85,9 +85,9 @@ returns-5 c =
     let start = at-idm .before .before in
     let s = now (start .args .payload) in
     let idm = at-idm .take-idm .ensures .0 ∙ ap (idmStep s (at-idm .take-idm .result .idm)) (at-first .before .before .step .given .1) in
-    let first = at-first .take-u16-list .ensures .0 ∙ ap (codesTaken s) (at-elements .before .before .listed .given .1) in
-    let elements = at-elements .take-block-list .ensures .0 ∙ ap (elementsTaken s) (at-bytes .before .before .elements .given .1) in
-    let placed-elements = subst (λ (x : ListTaken). ElementsPlaced s (at-elements .before .before .listed .given .0 .1 .0 .at + 1) x) (at-bytes .before .before .elements .given .1) (at-elements .take-block-list .ensures .1) in
+    let first = at-first .take-first-codes .ensures .0 ∙ ap (codesTaken s) (at-elements .before .before .listed .given .1) in
+    let elements = at-elements .take-second-blocks .ensures .0 ∙ ap (elementsTaken s) (at-bytes .before .before .elements .given .1) in
+    let placed-elements = subst (λ (x : ListTaken). ElementsPlaced s (at-elements .before .before .listed .given .0 .1 .0 .at + 1) x) (at-bytes .before .before .elements .given .1) (at-elements .take-second-blocks .ensures .1) in
     let bytes = data-counted (elementsAt s (at-bytes .before .before .elements .given .0 .0)) _ _ (placed-elements .1) (at-bytes .take-data .ensures .0 ∙ ap (dataTaken s) (at-ending .before .before .bytes .given .1)) in
     let ending = at-ending .take-end .ensures .0 ∙ ap (endStep s (zeros 16)) (c .before .before .enum-told6 .given .1) in
     refused-at s 1 0x08 _ _ _ _ layout-08
@@ -105,13 +105,13 @@ returns-6 c =
     let start = at-idm .before .before in
     let s = now (start .args .payload) in
     let idm = at-idm .take-idm .ensures .0 ∙ ap (idmStep s (at-idm .take-idm .result .idm)) (at-first .before .before .step .given .1) in
-    let first = at-first .take-u16-list .ensures .0 ∙ ap (codesTaken s) (at-elements .before .before .listed .given .1) in
-    let elements = at-elements .take-block-list .ensures .0 ∙ ap (elementsTaken s) (at-bytes .before .before .elements .given .1) in
-    let placed-elements = subst (λ (x : ListTaken). ElementsPlaced s (at-elements .before .before .listed .given .0 .1 .0 .at + 1) x) (at-bytes .before .before .elements .given .1) (at-elements .take-block-list .ensures .1) in
+    let first = at-first .take-first-codes .ensures .0 ∙ ap (codesTaken s) (at-elements .before .before .listed .given .1) in
+    let elements = at-elements .take-second-blocks .ensures .0 ∙ ap (elementsTaken s) (at-bytes .before .before .elements .given .1) in
+    let placed-elements = subst (λ (x : ListTaken). ElementsPlaced s (at-elements .before .before .listed .given .0 .1 .0 .at + 1) x) (at-bytes .before .before .elements .given .1) (at-elements .take-second-blocks .ensures .1) in
     let bytes = data-counted (elementsAt s (at-bytes .before .before .elements .given .0 .0)) _ _ (placed-elements .1) (at-bytes .take-data .ensures .0 ∙ ap (dataTaken s) (at-ending .before .before .bytes .given .1)) in
     let ending = at-ending .take-end .ensures .0 ∙ ap (endStep s (zeros 16)) (c .before .enum-told5 .given .1) in
     let behind-idm = subst (λ (x : Moved). MovesTo 9 (movedWith (at-idm .take-idm .result .idm) x)) (at-first .before .before .step .given .1) (at-idm .take-idm .ensures .1) in
-    let placed-first = subst (λ (x : ListTaken). CodesPlaced (at-first .before .before .step .given .0 .0 .at + 1) x) (at-elements .before .before .listed .given .1) (at-first .take-u16-list .ensures .1) in
+    let placed-first = subst (λ (x : ListTaken). CodesPlaced (at-first .before .before .step .given .0 .0 .at + 1) x) (at-elements .before .before .listed .given .1) (at-first .take-first-codes .ensures .1) in
     let placed-data = subst (λ (x : ListTaken). DataPlaced (at-bytes .before .before .elements .given .0 .1 .0 .at) (at-bytes .before .before .elements .given .0 .0 .count) x) (at-ending .before .before .bytes .given .1) (at-bytes .take-data .ensures .1) in
     let read-data = at-bytes .take-data .ensures .0 ∙ ap (dataTaken s) (at-ending .before .before .bytes .given .1) in
     let codes = at-elements .before .before .listed .given .0 .0 in

@@ -22,7 +22,7 @@ returns c =
     let at-elements = c .before .before .before .before in
     let start = at-elements .before .before in
     let s = now (start .args .payload) in
-    let elements = at-elements .take-block-list .ensures .0 ∙ ap (elementsTaken s) (c .before .before .enum-told .given .1) in
+    let elements = at-elements .take-first-blocks .ensures .0 ∙ ap (elementsTaken s) (c .before .before .enum-told .given .1) in
     refused-at s 0 (start .args .command-code) _ _ _ _ (read-layout (start .args .command-code) (start .pre))
     (body (start .args .command-code) _ (drop 0 s) ∙ on _ (no-idm _) (on _ (no-selector _) (on _ (no-codes _ _ _) (on _ (no-codes _ _ _) (stop _ elements)))))
     (c .before .ground .ensures ∙ ap listGround (c .before .before .enum-told .given .1)) (c .refused .ensures)
@@ -33,8 +33,8 @@ returns-2 c =
     let at-elements = c .before .before .before .before in
     let start = at-elements .before .before in
     let s = now (start .args .payload) in
-    let elements = at-elements .take-block-list .ensures .0 ∙ ap (elementsTaken s) (c .before .before .elements .given .1) in
-    let placed-elements = subst (λ (x : ListTaken). ElementsPlaced s (0 + 1) x) (c .before .before .elements .given .1) (at-elements .take-block-list .ensures .1) in
+    let elements = at-elements .take-first-blocks .ensures .0 ∙ ap (elementsTaken s) (c .before .before .elements .given .1) in
+    let placed-elements = subst (λ (x : ListTaken). ElementsPlaced s (0 + 1) x) (c .before .before .elements .given .1) (at-elements .take-first-blocks .ensures .1) in
     accepted-at s 0 (start .args .command-code) _ (c .read-kind .result) _ (zeros 8) (zeros 16) _ _ (read-layout (start .args .command-code) (start .pre)) (c .read-kind .ensures)
     (body (start .args .command-code) _ (drop 0 s) ∙ on _ (no-idm _) (on _ (no-selector _) (on _ (no-codes _ _ _) (on _ (no-codes _ _ _) (on _ elements (on _ (no-data _ _) (on _ (ignored-ending _) (on _ (ignored-package _) refl))))))))
     refl refl

@@ -23,7 +23,7 @@ returns c =
     let at-elements = c .before .before .before .before in
     let start = at-elements .before .before in
     let s = now (start .args .payload) in
-    let elements = at-elements .take-block-list .ensures .0 ∙ ap (elementsTaken s) (c .before .before .enum-told .given .1) in
+    let elements = at-elements .take-first-blocks .ensures .0 ∙ ap (elementsTaken s) (c .before .before .enum-told .given .1) in
     refused-at s 0 (start .args .command-code) _ _ _ _ (write-layout (start .args .command-code) (start .pre))
     (body (start .args .command-code) _ (drop 0 s) ∙ on _ (no-idm _) (on _ (no-selector _) (on _ (no-codes _ _ _) (on _ (no-codes _ _ _) (stop _ elements)))))
     (c .before .ground .ensures ∙ ap listGround (c .before .before .enum-told .given .1)) (c .refused .ensures)
@@ -34,8 +34,8 @@ returns-2 c =
     let at-elements = at-bytes .before .before .before .before in
     let start = at-elements .before .before in
     let s = now (start .args .payload) in
-    let elements = at-elements .take-block-list .ensures .0 ∙ ap (elementsTaken s) (at-bytes .before .before .elements .given .1) in
-    let placed-elements = subst (λ (x : ListTaken). ElementsPlaced s (0 + 1) x) (at-bytes .before .before .elements .given .1) (at-elements .take-block-list .ensures .1) in
+    let elements = at-elements .take-first-blocks .ensures .0 ∙ ap (elementsTaken s) (at-bytes .before .before .elements .given .1) in
+    let placed-elements = subst (λ (x : ListTaken). ElementsPlaced s (0 + 1) x) (at-bytes .before .before .elements .given .1) (at-elements .take-first-blocks .ensures .1) in
     let bytes = data-counted (elementsAt s (at-bytes .before .before .elements .given .0 .0)) _ _ (placed-elements .1) (at-bytes .take-data .ensures .0 ∙ ap (dataTaken s) (c .before .before .enum-told2 .given .1)) in
     refused-at s 0 (start .args .command-code) _ _ _ _ (write-layout (start .args .command-code) (start .pre))
     (body (start .args .command-code) _ (drop 0 s) ∙ on _ (no-idm _) (on _ (no-selector _) (on _ (no-codes _ _ _) (on _ (no-codes _ _ _) (on _ elements (stop _ bytes))))))
@@ -48,8 +48,8 @@ returns-3 c =
     let at-elements = at-bytes .before .before .before .before in
     let start = at-elements .before .before in
     let s = now (start .args .payload) in
-    let elements = at-elements .take-block-list .ensures .0 ∙ ap (elementsTaken s) (at-bytes .before .before .elements .given .1) in
-    let placed-elements = subst (λ (x : ListTaken). ElementsPlaced s (0 + 1) x) (at-bytes .before .before .elements .given .1) (at-elements .take-block-list .ensures .1) in
+    let elements = at-elements .take-first-blocks .ensures .0 ∙ ap (elementsTaken s) (at-bytes .before .before .elements .given .1) in
+    let placed-elements = subst (λ (x : ListTaken). ElementsPlaced s (0 + 1) x) (at-bytes .before .before .elements .given .1) (at-elements .take-first-blocks .ensures .1) in
     let bytes = data-counted (elementsAt s (at-bytes .before .before .elements .given .0 .0)) _ _ (placed-elements .1) (at-bytes .take-data .ensures .0 ∙ ap (dataTaken s) (c .before .before .bytes .given .1)) in
     let placed-data = subst (λ (x : ListTaken). DataPlaced (at-bytes .before .before .elements .given .0 .1 .0 .at) (at-bytes .before .before .elements .given .0 .0 .count) x) (c .before .before .bytes .given .1) (at-bytes .take-data .ensures .1) in
     let read-data = at-bytes .take-data .ensures .0 ∙ ap (dataTaken s) (c .before .before .bytes .given .1) in
