@@ -76,7 +76,9 @@ fn polling_at(payload: &[u8], at: usize) -> PollingTaken
     if !is_polling_time_slot(time_slots) {
         return PollingTaken::Refused(error::SECOND_TYPE_UNDEFINED);
     }
-    let system_code = word_of(payload[at + 1], payload[at]);
+    let high = payload[at];
+    let low = payload[at + 1];
+    let system_code = word_of(low, high);
     PollingTaken::Parameters(system_code, request_code, time_slots, Cursor { at: at + 4 })
 }
 

@@ -49,20 +49,20 @@ returns-2 c =
     let request : ltb 2 b ≡ false = ltb-not-leb b 2 ∙ ap not (sym (c .before .before .before .before .is-polling-request-code .ensures)) ∙ test in
     (simp (getD-drop, request, sym (c .before .is-polling-time-slot .ensures), c .if2 .taken), tt)
 
-add-word-of : tie.Need-add-word-of
-add-word-of c = search needs
+shared-slice-read-high : tie.Need-shared-slice-read-high
+shared-slice-read-high c = search needs
 
-shared-slice-read-word-of : tie.Need-shared-slice-read-word-of
-shared-slice-read-word-of c = search needs
+add-low : tie.Need-add-low
+add-low c = search needs
 
-shared-slice-read-word-of-2 : tie.Need-shared-slice-read-word-of-2
-shared-slice-read-word-of-2 c = search needs
+shared-slice-read-low : tie.Need-shared-slice-read-low
+shared-slice-read-low c = search needs
 
 word-of-requires : tie.Need-word-of-requires
 word-of-requires c κs = search needs
 
-add-t6 : tie.Need-add-t6
-add-t6 c = search needs
+add-t8 : tie.Need-add-t8
+add-t8 c = search needs
 
 returns-3 : tie.Need-returns-3
 returns-3 c =
@@ -85,9 +85,9 @@ polling-at-spec =
     shared-slice-read-time-slots
     is-polling-time-slot-requires
     returns-2
-    add-word-of
-    shared-slice-read-word-of
-    shared-slice-read-word-of-2
+    shared-slice-read-high
+    add-low
+    shared-slice-read-low
     word-of-requires
-    add-t6
+    add-t8
     returns-3)
