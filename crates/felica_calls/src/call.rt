@@ -1,0 +1,177 @@
+// A line as a call: a letter, then fields, each behind one space. The bytes of the last field go to a lent buffer.
+use crate::fault::Fault;
+use crate::find::find;
+use crate::hex::Digit;
+use crate::hex::digit_value;
+
+// The call with the number of its bytes, or what is wrong with it.
+pub enum Call {
+    Frame(usize),
+    Payload(usize),
+    // The secure code and its payload.
+    Secure(u8, usize),
+    Wrong(Fault),
+}
+
+enum Kind {
+    Frame,
+    Payload,
+    Secure,
+    Unknown,
+}
+
+enum Bytes {
+    Count(usize),
+    Wrong(Fault),
+}
+
+enum Code {
+    Code(u8),
+    Wrong(Fault),
+}
+
+pub fn read_call(line: &[u8], bytes: &mut [u8]) -> Call {
+    if line.len() == 0 {
+        return Call::Wrong(Fault::EmptyLine);
+    }
+    let end = find(line, b' ');
+    let kind = kind_of(&line[..end]);
+    match kind {
+        Kind::Frame => read_frame(&line[end..], bytes),
+        Kind::Payload => read_payload(&line[end..], bytes),
+        Kind::Secure => read_secure(&line[end..], bytes),
+        Kind::Unknown => Call::Wrong(Fault::UnknownCall),
+    }
+}
+
+fn kind_of(name: &[u8]) -> Kind {
+    if name.len() != 1 {
+        return Kind::Unknown;
+    }
+    let letter = name[0];
+    match letter {
+        b'F' => Kind::Frame,
+        b'P' => Kind::Payload,
+        b'S' => Kind::Secure,
+        _ => Kind::Unknown,
+    }
+}
+
+fn read_frame(rest: &[u8], bytes: &mut [u8]) -> Call {
+    let last = read_last(rest, bytes);
+    match last {
+        Bytes::Count(count) => Call::Frame(count),
+        Bytes::Wrong(fault) => Call::Wrong(fault),
+    }
+}
+
+fn read_payload(rest: &[u8], bytes: &mut [u8]) -> Call {
+    let last = read_last(rest, bytes);
+    match last {
+        Bytes::Count(count) => Call::Payload(count),
+        Bytes::Wrong(fault) => Call::Wrong(fault),
+    }
+}
+
+fn read_secure(rest: &[u8], bytes: &mut [u8]) -> Call {
+    if rest.len() == 0 {
+        return Call::Wrong(Fault::MissingField);
+    }
+    let field = &rest[1..];
+    let end = find(field, b' ');
+    let first = read_code(&field[..end]);
+    match first {
+        Code::Code(code) => read_secure_payload(code, &field[end..], bytes),
+        Code::Wrong(fault) => Call::Wrong(fault),
+    }
+}
+
+fn read_secure_payload(code: u8, rest: &[u8], bytes: &mut [u8]) -> Call {
+    let last = read_last(rest, bytes);
+    match last {
+        Bytes::Count(count) => Call::Secure(code, count),
+        Bytes::Wrong(fault) => Call::Wrong(fault),
+    }
+}
+
+// A command code in its two digits.
+fn read_code(field: &[u8]) -> Code {
+    if field.len() == 0 {
+        return Code::Wrong(Fault::MissingField);
+    }
+    if field.len() != 2 {
+        return Code::Wrong(Fault::CodeSize);
+    }
+    if all_digits(field) {
+        Code::Code(byte_of(field[0], field[1]))
+    } else {
+        Code::Wrong(Fault::NoDigit)
+    }
+}
+
+// The last field, with the space before it.
+fn read_last(rest: &[u8], bytes: &mut [u8]) -> Bytes {
+    if rest.len() == 0 {
+        return Bytes::Wrong(Fault::MissingField);
+    }
+    let field = &rest[1..];
+    if find(field, b' ') < field.len() {
+        return Bytes::Wrong(Fault::ExtraField);
+    }
+    read_bytes(field, bytes)
+}
+
+fn read_bytes(field: &[u8], bytes: &mut [u8]) -> Bytes {
+    if field.len() == 0 {
+        return Bytes::Wrong(Fault::MissingField);
+    }
+    if field.len() == 1 {
+        if field[0] == b'-' {
+            return Bytes::Count(0);
+        }
+    }
+    if !all_digits(field) {
+        return Bytes::Wrong(Fault::NoDigit);
+    }
+    if field.len() % 2 == 1 {
+        return Bytes::Wrong(Fault::OddDigits);
+    }
+    let count = field.len() / 2;
+    if bytes.len() < count {
+        return Bytes::Wrong(Fault::TooManyBytes);
+    }
+    decode(field, bytes, count);
+    Bytes::Count(count)
+}
+
+fn decode(field: &[u8], bytes: &mut [u8], count: usize) {
+    let mut i = 0;
+    while i < count {
+        bytes[i] = byte_of(field[2 * i], field[2 * i + 1]);
+        i += 1;
+    }
+}
+
+fn all_digits(field: &[u8]) -> bool {
+    let mut i = 0;
+    while i < field.len() {
+        let digit = digit_value(field[i]);
+        if let Digit::NoDigit = digit {
+            return false;
+        }
+        i += 1;
+    }
+    true
+}
+
+fn byte_of(high: u8, low: u8) -> u8 {
+    16 * value_of(high) + value_of(low)
+}
+
+fn value_of(digit: u8) -> u8 {
+    let value = digit_value(digit);
+    match value {
+        Digit::Value(value) => value,
+        Digit::NoDigit => 0,
+    }
+}

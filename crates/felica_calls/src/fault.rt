@@ -1,0 +1,29 @@
+// What can be wrong with a call, and the line that says it.
+use crate::put::put_bytes;
+
+pub enum Fault {
+    EmptyLine,
+    LineTooLong,
+    UnknownCall,
+    MissingField,
+    ExtraField,
+    CodeSize,
+    NoDigit,
+    OddDigits,
+    TooManyBytes,
+}
+
+pub fn put_fault(out: &mut [u8], at: usize, fault: Fault) -> usize {
+    let next = put_bytes(out, at, b"BAD CALL: ");
+    match fault {
+        Fault::EmptyLine => put_bytes(out, next, b"empty line"),
+        Fault::LineTooLong => put_bytes(out, next, b"line too long"),
+        Fault::UnknownCall => put_bytes(out, next, b"unknown call"),
+        Fault::MissingField => put_bytes(out, next, b"missing field"),
+        Fault::ExtraField => put_bytes(out, next, b"extra field"),
+        Fault::CodeSize => put_bytes(out, next, b"command code not of two digits"),
+        Fault::NoDigit => put_bytes(out, next, b"not a hexadecimal digit"),
+        Fault::OddDigits => put_bytes(out, next, b"odd number of hexadecimal digits"),
+        Fault::TooManyBytes => put_bytes(out, next, b"too many bytes"),
+    }
+}

@@ -1,0 +1,249 @@
+// The fields of each command, in the order of its layout.
+use crate::field::put_blocks_field;
+use crate::field::put_byte_field;
+use crate::field::put_codes_field;
+use crate::field::put_hex_field;
+use crate::field::put_part_field;
+use crate::field::put_word_field;
+use felica_command::command::FelicaStandardCommand as Command;
+use felica_command::command::Part;
+use felica_command::types::NodePropertyType;
+use felica_command::types::SetParameterEncryptionType;
+use felica_command::types::SetParameterPacketType;
+
+pub fn put_fields(
+    out: &mut [u8],
+    at: usize,
+    payload: &[u8],
+    command: Command,
+    idm: [u8; 8],
+    challenge: [u8; 16],
+) -> usize {
+    match command {
+        Command::Polling {
+            system_code,
+            request_code,
+            time_slots,
+        } => put_polling(out, at, system_code, request_code, time_slots),
+        Command::GetContainerProperty { property } => put_word_field(
+            out,
+            at,
+            b" property=",
+            property.index(),
+        ),
+        Command::GetContainerId | Command::ChangeSystemBlock => at,
+        Command::Read { block_list } | Command::ReadV2 { block_list } => put_blocks_field(
+            out,
+            at,
+            payload,
+            block_list,
+        ),
+        Command::Write { block_list, data } | Command::WriteV2 { block_list, data } => put_write(
+            out,
+            at,
+            payload,
+            block_list,
+            data,
+        ),
+        Command::RegisterIssueId { package } => put_register_issue_id(
+            out,
+            at,
+            payload,
+            package,
+            challenge,
+        ),
+        Command::RegisterArea { area_code, package } => put_register(
+            out,
+            at,
+            payload,
+            area_code.0,
+            package,
+        ),
+        Command::RegisterService {
+            service_code,
+            package,
+        } => put_register(out, at, payload, service_code.0, package),
+        _ => {
+            let next = put_hex_field(out, at, b" idm=", &idm);
+            put_behind_idm(out, next, payload, command, challenge)
+        }
+    }
+}
+
+fn put_behind_idm(
+    out: &mut [u8],
+    at: usize,
+    payload: &[u8],
+    command: Command,
+    challenge: [u8; 16],
+) -> usize {
+    match command {
+        Command::RequestService { service_codes } | Command::RequestServiceV2 { service_codes } =>
+            put_codes_field(out, at, b" first=", payload, service_codes),
+        Command::RequestBlockInformation { node_codes }
+        | Command::RequestBlockInformationEx { node_codes } => put_codes_field(
+            out,
+            at,
+            b" first=",
+            payload,
+            node_codes,
+        ),
+        Command::ReadWithoutEncryption {
+            service_codes,
+            block_list,
+        } => put_read_without_encryption(out, at, payload, service_codes, block_list),
+        Command::WriteWithoutEncryption {
+            service_codes,
+            block_list,
+            data,
+        } => put_write_without_encryption(out, at, payload, service_codes, block_list, data),
+        Command::SearchServiceCode { service_index } => put_word_field(
+            out,
+            at,
+            b" index=",
+            service_index,
+        ),
+        Command::Authentication1 { areas, services } => put_authentication1(
+            out,
+            at,
+            payload,
+            areas,
+            services,
+            challenge,
+        ),
+        Command::Authentication2 => put_hex_field(out, at, b" challenge=", &challenge[..8]),
+        Command::RequestCodeList {
+            parent_node_code,
+            index,
+        } => put_request_code_list(out, at, parent_node_code.0, index),
+        Command::SetParameter {
+            encryption_type,
+            packet_type,
+        } => put_set_parameter(out, at, encryption_type, packet_type),
+        Command::GetAreaInformation { node_code } => put_word_field(
+            out,
+            at,
+            b" node=",
+            node_code.0,
+        ),
+        Command::GetNodeProperty {
+            node_property_type,
+            node_codes,
+        } => put_get_node_property(out, at, payload, node_property_type, node_codes),
+        Command::Authentication1V2 {
+            operation_parameter,
+            nodes,
+        } => put_authentication1_v2(out, at, payload, operation_parameter, nodes, challenge),
+        Command::Authentication2V2 => put_hex_field(out, at, b" challenge=", &challenge),
+        _ => at,
+    }
+}
+
+fn put_polling(
+    out: &mut [u8],
+    at: usize,
+    system_code: u16,
+    request_code: u8,
+    time_slots: u8,
+) -> usize {
+    let request_at = put_word_field(out, at, b" system=", system_code);
+    let slots_at = put_byte_field(out, request_at, b" request=", request_code);
+    put_byte_field(out, slots_at, b" slots=", time_slots)
+}
+
+fn put_read_without_encryption(
+    out: &mut [u8],
+    at: usize,
+    payload: &[u8],
+    service_codes: Part,
+    block_list: Part,
+) -> usize {
+    let next = put_codes_field(out, at, b" first=", payload, service_codes);
+    put_blocks_field(out, next, payload, block_list)
+}
+
+fn put_write_without_encryption(
+    out: &mut [u8],
+    at: usize,
+    payload: &[u8],
+    service_codes: Part,
+    block_list: Part,
+    data: Part,
+) -> usize {
+    let next = put_codes_field(out, at, b" first=", payload, service_codes);
+    put_write(out, next, payload, block_list, data)
+}
+
+fn put_write(out: &mut [u8], at: usize, payload: &[u8], block_list: Part, data: Part) -> usize {
+    let next = put_blocks_field(out, at, payload, block_list);
+    put_part_field(out, next, b" data=", payload, data)
+}
+
+fn put_authentication1(
+    out: &mut [u8],
+    at: usize,
+    payload: &[u8],
+    areas: Part,
+    services: Part,
+    challenge: [u8; 16],
+) -> usize {
+    let second_at = put_codes_field(out, at, b" first=", payload, areas);
+    let challenge_at = put_codes_field(out, second_at, b" second=", payload, services);
+    put_hex_field(out, challenge_at, b" challenge=", &challenge[..8])
+}
+
+fn put_request_code_list(out: &mut [u8], at: usize, parent: u16, index: u16) -> usize {
+    let next = put_word_field(out, at, b" parent=", parent);
+    put_word_field(out, next, b" index=", index)
+}
+
+fn put_set_parameter(
+    out: &mut [u8],
+    at: usize,
+    encryption_type: SetParameterEncryptionType,
+    packet_type: SetParameterPacketType,
+) -> usize {
+    let next = put_byte_field(out, at, b" encryption=", encryption_type.to_byte());
+    put_byte_field(out, next, b" packet=", packet_type.to_byte())
+}
+
+fn put_get_node_property(
+    out: &mut [u8],
+    at: usize,
+    payload: &[u8],
+    node_property_type: NodePropertyType,
+    node_codes: Part,
+) -> usize {
+    let next = put_byte_field(out, at, b" type=", node_property_type.to_byte());
+    put_codes_field(out, next, b" first=", payload, node_codes)
+}
+
+fn put_authentication1_v2(
+    out: &mut [u8],
+    at: usize,
+    payload: &[u8],
+    operation_parameter: u8,
+    nodes: Part,
+    challenge: [u8; 16],
+) -> usize {
+    let first_at = put_byte_field(out, at, b" operation=", operation_parameter);
+    let challenge_at = put_codes_field(out, first_at, b" first=", payload, nodes);
+    put_hex_field(out, challenge_at, b" challenge=", &challenge)
+}
+
+fn put_register_issue_id(
+    out: &mut [u8],
+    at: usize,
+    payload: &[u8],
+    package: Part,
+    challenge: [u8; 16],
+) -> usize {
+    let parameter_at = put_hex_field(out, at, b" issue_id=", &challenge[..8]);
+    let package_at = put_hex_field(out, parameter_at, b" issue_parameter=", &challenge[8..]);
+    put_part_field(out, package_at, b" package=", payload, package)
+}
+
+fn put_register(out: &mut [u8], at: usize, payload: &[u8], code: u16, package: Part) -> usize {
+    let next = put_word_field(out, at, b" node=", code);
+    put_part_field(out, next, b" package=", payload, package)
+}

@@ -1,0 +1,82 @@
+// The lists of a command, read from the payload and put as text: entries parted by commas, and `-` for none.
+use crate::element::CodeRead;
+use crate::element::ElementRead;
+use crate::element::code_at;
+use crate::element::element_at;
+use crate::hex::hex_digit;
+use crate::put::put_byte;
+use crate::put::put_hex_word;
+use felica_command::command::Part;
+use felica_command::types::BlockListElement;
+
+pub fn put_codes(out: &mut [u8], at: usize, payload: &[u8], list: Part) -> usize {
+    let start = list.start;
+    let count = list.count;
+    if count == 0 {
+        return put_byte(out, at, b'-');
+    }
+    let first = code_at(payload, start);
+    let CodeRead::Code(code, place) = first else {
+        return put_byte(out, at, b'-');
+    };
+    let next = put_hex_word(out, at, code);
+    put_more_codes(out, next, payload, place, count - 1)
+}
+
+fn put_more_codes(out: &mut [u8], at: usize, payload: &[u8], start: usize, count: usize) -> usize {
+    let mut next = at;
+    let mut place = start;
+    let mut left = count;
+    while 0 < left {
+        let taken = code_at(payload, place);
+        let CodeRead::Code(code, behind) = taken else {
+            return next;
+        };
+        next = put_byte(out, next, b',');
+        next = put_hex_word(out, next, code);
+        place = behind;
+        left -= 1;
+    }
+    next
+}
+
+pub fn put_blocks(out: &mut [u8], at: usize, payload: &[u8], list: Part) -> usize {
+    let start = list.start;
+    let count = list.count;
+    if count == 0 {
+        return put_byte(out, at, b'-');
+    }
+    let first = element_at(payload, start);
+    let ElementRead::Element(element, place) = first else {
+        return put_byte(out, at, b'-');
+    };
+    let next = put_block(out, at, element);
+    put_more_blocks(out, next, payload, place, count - 1)
+}
+
+fn put_more_blocks(out: &mut [u8], at: usize, payload: &[u8], start: usize, count: usize) -> usize {
+    let mut next = at;
+    let mut place = start;
+    let mut left = count;
+    while 0 < left {
+        let taken = element_at(payload, place);
+        let ElementRead::Element(element, behind) = taken else {
+            return next;
+        };
+        next = put_byte(out, next, b',');
+        next = put_block(out, next, element);
+        place = behind;
+        left -= 1;
+    }
+    next
+}
+
+// Block number, place in the service code list, access mode.
+fn put_block(out: &mut [u8], at: usize, element: BlockListElement) -> usize {
+    let number = element.block_number_or_key_version.0;
+    let behind_number = put_hex_word(out, at, number);
+    let place_at = put_byte(out, behind_number, b'/');
+    let behind_place = put_byte(out, place_at, hex_digit(element.service_code_list_index));
+    let mode_at = put_byte(out, behind_place, b'/');
+    put_byte(out, mode_at, hex_digit(element.access_mode))
+}
