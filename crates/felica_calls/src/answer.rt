@@ -1,4 +1,10 @@
 // The line that answers a call: `OK`, the code and the fields of the command, or `NO`, the number of the refusal and the code.
+ghost use mathlib.Core.Path.{_≡_};
+ghost use mathlib.Core.List.{_++_};
+ghost use Rattle.felica_command.specs.Meaning.{fieldsOf};
+ghost use Rattle.felica_calls.specs.Text.{text, byteText};
+ghost use Rattle.felica_calls.specs.Put.{buffer, put};
+ghost use Rattle.felica_calls.specs.Answer.{refusalText, lineOf};
 use crate::fields::put_fields;
 use crate::put::put_byte;
 use crate::put::put_bytes;
@@ -11,7 +17,9 @@ use felica_command::command::Refusal;
 use felica_format::constants;
 
 // The payload is the one that the places in `parsed` count from: of a frame, the bytes behind its length byte.
-pub fn put_answer(out: &mut [u8], at: usize, payload: &[u8], parsed: Parsed) -> usize {
+pub fn put_answer(out: &mut [u8], at: usize, payload: &[u8], parsed: Parsed) -> usize
+    ensures { λ r. ⌜ buffer (now (out .exit)) r ≡ put (buffer (now (out .entry)) at) (lineOf (now (payload .entry)) parsed) ⌝ }
+{
     let answer = parsed.answer;
     match answer {
         Answer::Command(command) => {
@@ -24,7 +32,9 @@ pub fn put_answer(out: &mut [u8], at: usize, payload: &[u8], parsed: Parsed) -> 
     }
 }
 
-fn put_refusal(out: &mut [u8], at: usize, refusal: Refusal) -> usize {
+fn put_refusal(out: &mut [u8], at: usize, refusal: Refusal) -> usize
+    ensures { λ r. ⌜ buffer (now (out .exit)) r ≡ put (buffer (now (out .entry)) at) (refusalText refusal) ⌝ }
+{
     let next = put_bytes(out, at, b"NO ");
     match refusal {
         Refusal::Number(number) => {
@@ -39,12 +49,16 @@ fn put_refusal(out: &mut [u8], at: usize, refusal: Refusal) -> usize {
     }
 }
 
-fn put_code(out: &mut [u8], at: usize, command: Command) -> usize {
+fn put_code(out: &mut [u8], at: usize, command: Command) -> usize
+    ensures { λ r. ⌜ buffer (now (out .exit)) r ≡ put (buffer (now (out .entry)) at) (text "OK " ++ byteText (fieldsOf command .code)) ⌝ }
+{
     let next = put_bytes(out, at, b"OK ");
     put_hex_byte(out, next, code_of(command))
 }
 
-fn code_of(command: Command) -> u8 {
+fn code_of(command: Command) -> u8
+    ensures { λ r. ⌜ r ≡ fieldsOf command .code ⌝ }
+{
     match command {
         Command::Polling { .. } => constants::POLLING_COMMAND_CODE,
         Command::RequestService { .. } => constants::REQUEST_SERVICE_COMMAND_CODE,

@@ -1,8 +1,14 @@
 // A line as a call: a letter, then fields, each behind one space. The bytes of the last field go to a lent buffer.
+ghost use mathlib.Core.Path.{_≡_};
+ghost use Rattle.felica_calls.specs.Text.{digitOf};
+ghost use Rattle.felica_calls.specs.Put.{buffer, put};
+ghost use Rattle.felica_calls.specs.Call.{called, decoded, readCall, kindOf, lastIs, readLast, readSecureCall, readCommandCode};
+ghost use Rattle.felica_calls.specs.Call.{securePayload, readBytes, bytesOf, allDigits, byteOf, valueOf};
 use crate::fault::Fault;
 use crate::find::find;
 use crate::hex::Digit;
 use crate::hex::digit_value;
+use crate::put::put_byte;
 
 // The call with the number of its bytes, or what is wrong with it.
 pub enum Call {
@@ -30,7 +36,9 @@ enum Code {
     Wrong(Fault),
 }
 
-pub fn read_call(line: &[u8], bytes: &mut [u8]) -> Call {
+pub fn read_call(line: &[u8], bytes: &mut [u8]) -> Call
+    ensures { λ r. ⌜ called r (now (bytes .exit)) ≡ readCall (now (line .entry)) (now (bytes .entry)) ⌝ }
+{
     if line.len() == 0 {
         return Call::Wrong(Fault::EmptyLine);
     }
@@ -44,7 +52,9 @@ pub fn read_call(line: &[u8], bytes: &mut [u8]) -> Call {
     }
 }
 
-fn kind_of(name: &[u8]) -> Kind {
+fn kind_of(name: &[u8]) -> Kind
+    ensures { λ r. ⌜ r ≡ kindOf (now (name .entry)) ⌝ }
+{
     if name.len() != 1 {
         return Kind::Unknown;
     }
@@ -57,7 +67,9 @@ fn kind_of(name: &[u8]) -> Kind {
     }
 }
 
-fn read_frame(rest: &[u8], bytes: &mut [u8]) -> Call {
+fn read_frame(rest: &[u8], bytes: &mut [u8]) -> Call
+    ensures { λ r. ⌜ called r (now (bytes .exit)) ≡ lastIs Call.Frame (readLast (now (rest .entry)) (now (bytes .entry))) ⌝ }
+{
     let last = read_last(rest, bytes);
     match last {
         Bytes::Count(count) => Call::Frame(count),
@@ -65,7 +77,9 @@ fn read_frame(rest: &[u8], bytes: &mut [u8]) -> Call {
     }
 }
 
-fn read_payload(rest: &[u8], bytes: &mut [u8]) -> Call {
+fn read_payload(rest: &[u8], bytes: &mut [u8]) -> Call
+    ensures { λ r. ⌜ called r (now (bytes .exit)) ≡ lastIs Call.Payload (readLast (now (rest .entry)) (now (bytes .entry))) ⌝ }
+{
     let last = read_last(rest, bytes);
     match last {
         Bytes::Count(count) => Call::Payload(count),
@@ -73,7 +87,9 @@ fn read_payload(rest: &[u8], bytes: &mut [u8]) -> Call {
     }
 }
 
-fn read_secure(rest: &[u8], bytes: &mut [u8]) -> Call {
+fn read_secure(rest: &[u8], bytes: &mut [u8]) -> Call
+    ensures { λ r. ⌜ called r (now (bytes .exit)) ≡ readSecureCall (now (rest .entry)) (now (bytes .entry)) ⌝ }
+{
     if rest.len() == 0 {
         return Call::Wrong(Fault::MissingField);
     }
@@ -86,7 +102,9 @@ fn read_secure(rest: &[u8], bytes: &mut [u8]) -> Call {
     }
 }
 
-fn read_secure_payload(code: u8, rest: &[u8], bytes: &mut [u8]) -> Call {
+fn read_secure_payload(code: u8, rest: &[u8], bytes: &mut [u8]) -> Call
+    ensures { λ r. ⌜ called r (now (bytes .exit)) ≡ lastIs (Call.Secure code) (readLast (now (rest .entry)) (now (bytes .entry))) ⌝ }
+{
     let last = read_last(rest, bytes);
     match last {
         Bytes::Count(count) => Call::Secure(code, count),
@@ -95,7 +113,9 @@ fn read_secure_payload(code: u8, rest: &[u8], bytes: &mut [u8]) -> Call {
 }
 
 // A command code in its two digits.
-fn read_code(field: &[u8]) -> Code {
+fn read_code(field: &[u8]) -> Code
+    ensures { λ r. ⌜ r ≡ readCommandCode (now (field .entry)) ⌝ }
+{
     if field.len() == 0 {
         return Code::Wrong(Fault::MissingField);
     }
@@ -110,7 +130,9 @@ fn read_code(field: &[u8]) -> Code {
 }
 
 // The last field, with the space before it.
-fn read_last(rest: &[u8], bytes: &mut [u8]) -> Bytes {
+fn read_last(rest: &[u8], bytes: &mut [u8]) -> Bytes
+    ensures { λ r. ⌜ decoded r (now (bytes .exit)) ≡ readLast (now (rest .entry)) (now (bytes .entry)) ⌝ }
+{
     if rest.len() == 0 {
         return Bytes::Wrong(Fault::MissingField);
     }
@@ -121,7 +143,9 @@ fn read_last(rest: &[u8], bytes: &mut [u8]) -> Bytes {
     read_bytes(field, bytes)
 }
 
-fn read_bytes(field: &[u8], bytes: &mut [u8]) -> Bytes {
+fn read_bytes(field: &[u8], bytes: &mut [u8]) -> Bytes
+    ensures { λ r. ⌜ decoded r (now (bytes .exit)) ≡ readBytes (now (field .entry)) (now (bytes .entry)) ⌝ }
+{
     if field.len() == 0 {
         return Bytes::Wrong(Fault::MissingField);
     }
@@ -140,19 +164,26 @@ fn read_bytes(field: &[u8], bytes: &mut [u8]) -> Bytes {
     if bytes.len() < count {
         return Bytes::Wrong(Fault::TooManyBytes);
     }
-    decode(field, bytes, count);
+    decode(field, bytes);
     Bytes::Count(count)
 }
 
-fn decode(field: &[u8], bytes: &mut [u8], count: usize) {
+fn decode(field: &[u8], bytes: &mut [u8]) -> usize
+    ensures { λ r. ⌜ buffer (now (bytes .exit)) r ≡ put (buffer (now (bytes .entry)) 0) (bytesOf (now (field .entry))) ⌝ }
+{
+    let count = field.len() / 2;
+    let mut next = 0;
     let mut i = 0;
     while i < count {
-        bytes[i] = byte_of(field[2 * i], field[2 * i + 1]);
+        next = put_byte(bytes, next, byte_of(field[2 * i], field[2 * i + 1]));
         i += 1;
     }
+    next
 }
 
-fn all_digits(field: &[u8]) -> bool {
+fn all_digits(field: &[u8]) -> bool
+    ensures { λ r. ⌜ r ≡ allDigits (now (field .entry)) ⌝ }
+{
     let mut i = 0;
     while i < field.len() {
         let digit = digit_value(field[i]);
@@ -164,11 +195,15 @@ fn all_digits(field: &[u8]) -> bool {
     true
 }
 
-fn byte_of(high: u8, low: u8) -> u8 {
+fn byte_of(high: u8, low: u8) -> u8
+    ensures { λ r. ⌜ r ≡ byteOf high low ⌝ }
+{
     16 * value_of(high) + value_of(low)
 }
 
-fn value_of(digit: u8) -> u8 {
+fn value_of(digit: u8) -> u8
+    ensures { λ r. ⌜ r ≡ valueOf (digitOf digit) ⌝ }
+{
     let value = digit_value(digit);
     match value {
         Digit::Value(value) => value,

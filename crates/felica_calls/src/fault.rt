@@ -1,4 +1,7 @@
 // What can be wrong with a call, and the line that says it.
+ghost use mathlib.Core.Path.{_≡_};
+ghost use Rattle.felica_calls.specs.Put.{buffer, put};
+ghost use Rattle.felica_calls.specs.Call.{faultText};
 use crate::put::put_bytes;
 
 pub enum Fault {
@@ -13,7 +16,9 @@ pub enum Fault {
     TooManyBytes,
 }
 
-pub fn put_fault(out: &mut [u8], at: usize, fault: Fault) -> usize {
+pub fn put_fault(out: &mut [u8], at: usize, fault: Fault) -> usize
+    ensures { λ r. ⌜ buffer (now (out .exit)) r ≡ put (buffer (now (out .entry)) at) (faultText fault) ⌝ }
+{
     let next = put_bytes(out, at, b"BAD CALL: ");
     match fault {
         Fault::EmptyLine => put_bytes(out, next, b"empty line"),

@@ -1,4 +1,11 @@
 // The fields of each command, in the order of its layout.
+ghost use mathlib.Core.Path.{_≡_};
+ghost use mathlib.Core.List.{_++_};
+ghost use lib.ListN.{take, drop};
+ghost use Rattle.felica_command.specs.Types.{nodePropertyByte, encryptionByte, packetByte};
+ghost use Rattle.felica_calls.specs.Put.{buffer, put};
+ghost use Rattle.felica_calls.specs.Answer.{byteField, wordField, bytesField, codesField, blocksField, partField};
+ghost use Rattle.felica_calls.specs.Answer.{challenge8, challenge16, rowOf, behindIdm, rowText};
 use crate::field::put_blocks_field;
 use crate::field::put_byte_field;
 use crate::field::put_codes_field;
@@ -18,7 +25,9 @@ pub fn put_fields(
     command: Command,
     idm: [u8; 8],
     challenge: [u8; 16],
-) -> usize {
+) -> usize
+    ensures { λ r. ⌜ buffer (now (out .exit)) r ≡ put (buffer (now (out .entry)) at) (rowText idm (rowOf (now (payload .entry)) challenge command)) ⌝ }
+{
     match command {
         Command::Polling {
             system_code,
@@ -31,7 +40,8 @@ pub fn put_fields(
             b" property=",
             property.index(),
         ),
-        Command::GetContainerId | Command::ChangeSystemBlock => at,
+        Command::GetContainerId => at,
+        Command::ChangeSystemBlock => at,
         Command::Read { block_list } | Command::ReadV2 { block_list } => put_blocks_field(
             out,
             at,
@@ -76,7 +86,9 @@ fn put_behind_idm(
     payload: &[u8],
     command: Command,
     challenge: [u8; 16],
-) -> usize {
+) -> usize
+    ensures { λ r. ⌜ buffer (now (out .exit)) r ≡ put (buffer (now (out .entry)) at) (behindIdm (rowOf (now (payload .entry)) challenge command)) ⌝ }
+{
     match command {
         Command::RequestService { service_codes } | Command::RequestServiceV2 { service_codes } =>
             put_codes_field(out, at, b" first=", payload, service_codes),
@@ -145,7 +157,9 @@ fn put_polling(
     system_code: u16,
     request_code: u8,
     time_slots: u8,
-) -> usize {
+) -> usize
+    ensures { λ r. ⌜ buffer (now (out .exit)) r ≡ put (buffer (now (out .entry)) at) (wordField " system=" «system_code» ++ (byteField " request=" «request_code» ++ byteField " slots=" «time_slots»)) ⌝ }
+{
     let request_at = put_word_field(out, at, b" system=", system_code);
     let slots_at = put_byte_field(out, request_at, b" request=", request_code);
     put_byte_field(out, slots_at, b" slots=", time_slots)
@@ -157,7 +171,9 @@ fn put_read_without_encryption(
     payload: &[u8],
     service_codes: Part,
     block_list: Part,
-) -> usize {
+) -> usize
+    ensures { λ r. ⌜ buffer (now (out .exit)) r ≡ put (buffer (now (out .entry)) at) (codesField " first=" (now (payload .entry)) «service_codes» ++ blocksField (now (payload .entry)) «block_list») ⌝ }
+{
     let next = put_codes_field(out, at, b" first=", payload, service_codes);
     put_blocks_field(out, next, payload, block_list)
 }
@@ -169,12 +185,16 @@ fn put_write_without_encryption(
     service_codes: Part,
     block_list: Part,
     data: Part,
-) -> usize {
+) -> usize
+    ensures { λ r. ⌜ buffer (now (out .exit)) r ≡ put (buffer (now (out .entry)) at) (codesField " first=" (now (payload .entry)) «service_codes» ++ (blocksField (now (payload .entry)) «block_list» ++ partField " data=" (now (payload .entry)) «data»)) ⌝ }
+{
     let next = put_codes_field(out, at, b" first=", payload, service_codes);
     put_write(out, next, payload, block_list, data)
 }
 
-fn put_write(out: &mut [u8], at: usize, payload: &[u8], block_list: Part, data: Part) -> usize {
+fn put_write(out: &mut [u8], at: usize, payload: &[u8], block_list: Part, data: Part) -> usize
+    ensures { λ r. ⌜ buffer (now (out .exit)) r ≡ put (buffer (now (out .entry)) at) (blocksField (now (payload .entry)) «block_list» ++ partField " data=" (now (payload .entry)) «data») ⌝ }
+{
     let next = put_blocks_field(out, at, payload, block_list);
     put_part_field(out, next, b" data=", payload, data)
 }
@@ -186,13 +206,17 @@ fn put_authentication1(
     areas: Part,
     services: Part,
     challenge: [u8; 16],
-) -> usize {
+) -> usize
+    ensures { λ r. ⌜ buffer (now (out .exit)) r ≡ put (buffer (now (out .entry)) at) (codesField " first=" (now (payload .entry)) areas ++ (codesField " second=" (now (payload .entry)) services ++ challenge8 challenge)) ⌝ }
+{
     let second_at = put_codes_field(out, at, b" first=", payload, areas);
     let challenge_at = put_codes_field(out, second_at, b" second=", payload, services);
     put_hex_field(out, challenge_at, b" challenge=", &challenge[..8])
 }
 
-fn put_request_code_list(out: &mut [u8], at: usize, parent: u16, index: u16) -> usize {
+fn put_request_code_list(out: &mut [u8], at: usize, parent: u16, index: u16) -> usize
+    ensures { λ r. ⌜ buffer (now (out .exit)) r ≡ put (buffer (now (out .entry)) at) (wordField " parent=" parent ++ wordField " index=" index) ⌝ }
+{
     let next = put_word_field(out, at, b" parent=", parent);
     put_word_field(out, next, b" index=", index)
 }
@@ -202,7 +226,9 @@ fn put_set_parameter(
     at: usize,
     encryption_type: SetParameterEncryptionType,
     packet_type: SetParameterPacketType,
-) -> usize {
+) -> usize
+    ensures { λ r. ⌜ buffer (now (out .exit)) r ≡ put (buffer (now (out .entry)) at) (byteField " encryption=" (encryptionByte «encryption_type») ++ byteField " packet=" (packetByte «packet_type»)) ⌝ }
+{
     let next = put_byte_field(out, at, b" encryption=", encryption_type.to_byte());
     put_byte_field(out, next, b" packet=", packet_type.to_byte())
 }
@@ -213,7 +239,9 @@ fn put_get_node_property(
     payload: &[u8],
     node_property_type: NodePropertyType,
     node_codes: Part,
-) -> usize {
+) -> usize
+    ensures { λ r. ⌜ buffer (now (out .exit)) r ≡ put (buffer (now (out .entry)) at) (byteField " type=" (nodePropertyByte «node_property_type») ++ codesField " first=" (now (payload .entry)) «node_codes») ⌝ }
+{
     let next = put_byte_field(out, at, b" type=", node_property_type.to_byte());
     put_codes_field(out, next, b" first=", payload, node_codes)
 }
@@ -225,7 +253,9 @@ fn put_authentication1_v2(
     operation_parameter: u8,
     nodes: Part,
     challenge: [u8; 16],
-) -> usize {
+) -> usize
+    ensures { λ r. ⌜ buffer (now (out .exit)) r ≡ put (buffer (now (out .entry)) at) (byteField " operation=" «operation_parameter» ++ (codesField " first=" (now (payload .entry)) nodes ++ challenge16 challenge)) ⌝ }
+{
     let first_at = put_byte_field(out, at, b" operation=", operation_parameter);
     let challenge_at = put_codes_field(out, first_at, b" first=", payload, nodes);
     put_hex_field(out, challenge_at, b" challenge=", &challenge)
@@ -237,13 +267,17 @@ fn put_register_issue_id(
     payload: &[u8],
     package: Part,
     challenge: [u8; 16],
-) -> usize {
+) -> usize
+    ensures { λ r. ⌜ buffer (now (out .exit)) r ≡ put (buffer (now (out .entry)) at) (bytesField " issue_id=" (take 8 challenge) ++ (bytesField " issue_parameter=" (drop 8 challenge) ++ partField " package=" (now (payload .entry)) «package»)) ⌝ }
+{
     let parameter_at = put_hex_field(out, at, b" issue_id=", &challenge[..8]);
     let package_at = put_hex_field(out, parameter_at, b" issue_parameter=", &challenge[8..]);
     put_part_field(out, package_at, b" package=", payload, package)
 }
 
-fn put_register(out: &mut [u8], at: usize, payload: &[u8], code: u16, package: Part) -> usize {
+fn put_register(out: &mut [u8], at: usize, payload: &[u8], code: u16, package: Part) -> usize
+    ensures { λ r. ⌜ buffer (now (out .exit)) r ≡ put (buffer (now (out .entry)) at) (wordField " node=" code ++ partField " package=" (now (payload .entry)) «package») ⌝ }
+{
     let next = put_word_field(out, at, b" node=", code);
     put_part_field(out, next, b" package=", payload, package)
 }

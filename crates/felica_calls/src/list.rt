@@ -1,4 +1,11 @@
 // The lists of a command, read from the payload and put as text: entries parted by commas, and `-` for none.
+ghost use mathlib.Core.Path.{_≡_};
+ghost use lib.ListN.{drop};
+ghost use Rattle.felica_format.specs.Read.{readElement};
+ghost use Rattle.felica_command.specs.Types.{elementIs};
+ghost use Rattle.felica_calls.specs.Text.{wordText};
+ghost use Rattle.felica_calls.specs.Put.{buffer, put};
+ghost use Rattle.felica_calls.specs.Entries.{readCode, elementText, moreText, codesText, blocksText};
 use crate::element::CodeRead;
 use crate::element::ElementRead;
 use crate::element::code_at;
@@ -9,7 +16,9 @@ use crate::put::put_hex_word;
 use felica_command::command::Part;
 use felica_command::types::BlockListElement;
 
-pub fn put_codes(out: &mut [u8], at: usize, payload: &[u8], list: Part) -> usize {
+pub fn put_codes(out: &mut [u8], at: usize, payload: &[u8], list: Part) -> usize
+    ensures { λ r. ⌜ buffer (now (out .exit)) r ≡ put (buffer (now (out .entry)) at) (codesText (now (payload .entry)) list) ⌝ }
+{
     let start = list.start;
     let count = list.count;
     if count == 0 {
@@ -23,7 +32,9 @@ pub fn put_codes(out: &mut [u8], at: usize, payload: &[u8], list: Part) -> usize
     put_more_codes(out, next, payload, place, count - 1)
 }
 
-fn put_more_codes(out: &mut [u8], at: usize, payload: &[u8], start: usize, count: usize) -> usize {
+fn put_more_codes(out: &mut [u8], at: usize, payload: &[u8], start: usize, count: usize) -> usize
+    ensures { λ r. ⌜ buffer (now (out .exit)) r ≡ put (buffer (now (out .entry)) at) (moreText readCode wordText count (drop start (now (payload .entry)))) ⌝ }
+{
     let mut next = at;
     let mut place = start;
     let mut left = count;
@@ -40,7 +51,9 @@ fn put_more_codes(out: &mut [u8], at: usize, payload: &[u8], start: usize, count
     next
 }
 
-pub fn put_blocks(out: &mut [u8], at: usize, payload: &[u8], list: Part) -> usize {
+pub fn put_blocks(out: &mut [u8], at: usize, payload: &[u8], list: Part) -> usize
+    ensures { λ r. ⌜ buffer (now (out .exit)) r ≡ put (buffer (now (out .entry)) at) (blocksText (now (payload .entry)) list) ⌝ }
+{
     let start = list.start;
     let count = list.count;
     if count == 0 {
@@ -54,7 +67,9 @@ pub fn put_blocks(out: &mut [u8], at: usize, payload: &[u8], list: Part) -> usiz
     put_more_blocks(out, next, payload, place, count - 1)
 }
 
-fn put_more_blocks(out: &mut [u8], at: usize, payload: &[u8], start: usize, count: usize) -> usize {
+fn put_more_blocks(out: &mut [u8], at: usize, payload: &[u8], start: usize, count: usize) -> usize
+    ensures { λ r. ⌜ buffer (now (out .exit)) r ≡ put (buffer (now (out .entry)) at) (moreText readElement elementText count (drop start (now (payload .entry)))) ⌝ }
+{
     let mut next = at;
     let mut place = start;
     let mut left = count;
@@ -72,7 +87,9 @@ fn put_more_blocks(out: &mut [u8], at: usize, payload: &[u8], start: usize, coun
 }
 
 // Block number, place in the service code list, access mode.
-fn put_block(out: &mut [u8], at: usize, element: BlockListElement) -> usize {
+fn put_block(out: &mut [u8], at: usize, element: BlockListElement) -> usize
+    ensures { λ r. ⌜ buffer (now (out .exit)) r ≡ put (buffer (now (out .entry)) at) (elementText (elementIs element)) ⌝ }
+{
     let number = element.block_number_or_key_version.0;
     let behind_number = put_hex_word(out, at, number);
     let place_at = put_byte(out, behind_number, b'/');

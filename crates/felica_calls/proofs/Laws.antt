@@ -1,0 +1,45 @@
+-- Text put into a buffer, piece after piece, and the loops that put a list. Such a loop's invariant is stated of what is left: putting the rest
+-- here gives what putting all gives from the start.
+-- Assumes nothing.
+use mathlib.Core.Path.{_≡_, refl, sym, ap, _∙_}
+use mathlib.Core.List.{List, [], _∷_, _++_}
+use Prim.Native.Nat.{ℕ, _+_, _≤_, _<_}
+use native.Mathlib.Numerals.{add-one}
+use lib.ListN.{length, getD, drop, drop-of-length-le}
+use lib.Seq.{drop-cons}
+use Rattle.felica_calls.specs.Put.{Buffer, putByte, put}
+
+pub put-append : (b : Buffer) (vs ws : List ℕ) → put b (vs ++ ws) ≡ put (put b vs) ws
+unfolding put
+put-append b [] ws = refl
+put-append b (v ∷ vs) ws = put-append (putByte b v) vs ws
+
+-- one piece behind another
+pub put-then : (b : Buffer) (vs ws : List ℕ) {c d : Buffer} → c ≡ put b vs → d ≡ put c ws → d ≡ put b (vs ++ ws)
+put-then b vs ws first second = second ∙ ap (λ x. put x ws) first ∙ sym (put-append b vs ws)
+
+-- the first piece of what is to be put
+pub put-rest : (b : Buffer) (vs ws : List ℕ) {c all : Buffer} → put b (vs ++ ws) ≡ all → c ≡ put b vs → put c ws ≡ all
+put-rest b vs ws e first = ap (λ x. put x ws) first ∙ sym (put-append b vs ws) ∙ e
+
+pub put-none : (b : Buffer) (vs : List ℕ) {all : Buffer} → vs ≡ [] → put b vs ≡ all → b ≡ all
+unfolding put
+put-none b vs n e = sym (ap (put b) n) ∙ e
+
+-- one more entry of a list
+pub drop-next {ℓ} : {A : Type ℓ} (l : List A) (i : ℕ) (d : A) → i < length l → drop i l ≡ getD l i d ∷ drop (i + 1) l
+drop-next l i d h = drop-cons l i d h ∙ ap (λ (k : ℕ). getD l i d ∷ drop k l) (sym (add-one i))
+
+-- A turn of a loop that puts f of a list, entry by entry: g is what an entry puts.
+module _ {ℓ} {A : Type ℓ} (f : List A → List ℕ) (g : A → List ℕ) (cons : (x : A) (xs : List A) → f (x ∷ xs) ≡ g x ++ f xs) where
+  pub put-more : (b : Buffer) (s : List A) (i : ℕ) (d : A) {c all : Buffer} → i < length s → put b (f (drop i s)) ≡ all → c ≡ put b (g (getD s i d))
+      → put c (f (drop (i + 1) s)) ≡ all
+  put-more b s i d h e turn =
+      put-rest b (g (getD s i d)) (f (drop (i + 1) s))
+      (ap (put b) (sym (ap f (drop-next s i d h) ∙ cons (getD s i d) (drop (i + 1) s))) ∙ e)
+      turn
+
+-- nothing is left of it
+pub put-done {ℓ} : {A : Type ℓ} (f : List A → List ℕ) (b : Buffer) (s : List A) (i : ℕ) {all : Buffer} → f [] ≡ [] → length s ≤ i → put b (f (drop i s)) ≡ all
+    → b ≡ all
+put-done f b s i n h e = put-none b (f (drop i s)) (ap f (drop-of-length-le s h) ∙ n) e

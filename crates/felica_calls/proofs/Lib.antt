@@ -1,0 +1,5 @@
+pub mod Laws
+pub mod Text
+pub mod Before
+pub mod Entries
+pub mod Rows

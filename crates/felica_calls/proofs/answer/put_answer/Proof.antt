@@ -1,0 +1,47 @@
+-- `felica_calls::answer::put_answer` meets its contract.
+-- Assumes nothing.
+use Rattle.felica_calls.proofs.Laws.{put-then}
+use borrow.Author.Needs.{needs}
+use Rattle.felica_calls.proofs.answer.put_answer.Statement.{statement}
+use Rattle.felica_calls.proofs.answer.put_answer.Tie as tie
+
+enum-known-answer : tie.Need-enum-known-answer
+enum-known-answer c = search needs
+
+put-code-requires : tie.Need-put-code-requires
+put-code-requires c κs = search needs
+
+put-fields-requires : tie.Need-put-fields-requires
+put-fields-requires c κs = search needs
+
+enum-known-answer-2 : tie.Need-enum-known-answer-2
+enum-known-answer-2 c = search needs
+
+put-refusal-requires : tie.Need-put-refusal-requires
+put-refusal-requires c κs = search needs
+
+same-length : tie.Need-same-length
+same-length c = search needs
+
+returns : tie.Need-returns
+returns c = rw (c .before .before .before .before .before .before .before .before .before .before .before .answer .given .1) (put-then _ _ _ (c .before .before .before .before .before .before .put-code .ensures) (c .before .before .put-fields .ensures))
+
+same-length-2 : tie.Need-same-length-2
+same-length-2 c = search needs
+
+returns-2 : tie.Need-returns-2
+returns-2 c = rw (c .before .before .before .before .before .answer2 .given .1) (c .before .before .put-refusal .ensures)
+
+pub put-answer-spec : {M : Type 1} → statement M
+put-answer-spec =
+    tie.close
+    (tie.spec
+    enum-known-answer
+    put-code-requires
+    put-fields-requires
+    enum-known-answer-2
+    put-refusal-requires
+    same-length
+    returns
+    same-length-2
+    returns-2)

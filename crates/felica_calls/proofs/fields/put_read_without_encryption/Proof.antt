@@ -1,0 +1,31 @@
+-- `felica_calls::fields::put_read_without_encryption` meets its contract: field after field.
+-- Assumes nothing.
+use Rattle.felica_calls.proofs.Laws.{put-then}
+use borrow.Author.Needs.{needs}
+use Rattle.felica_calls.proofs.fields.put_read_without_encryption.Statement.{statement}
+use Rattle.felica_calls.proofs.fields.put_read_without_encryption.Tie as tie
+
+slice-aggregate-put-codes-field : tie.Need-slice-aggregate-put-codes-field
+slice-aggregate-put-codes-field c = search needs
+
+put-codes-field-requires : tie.Need-put-codes-field-requires
+put-codes-field-requires c κs = search needs
+
+put-blocks-field-requires : tie.Need-put-blocks-field-requires
+put-blocks-field-requires c κs = search needs
+
+same-length : tie.Need-same-length
+same-length c = search needs
+
+returns : tie.Need-returns
+returns c = put-then _ _ _ (c .before .before .before .before .before .before .put-codes-field .ensures) (c .before .before .put-blocks-field .ensures)
+
+pub put-read-without-encryption-spec : {M : Type 1} → statement M
+put-read-without-encryption-spec =
+    tie.close
+    (tie.spec
+    slice-aggregate-put-codes-field
+    put-codes-field-requires
+    put-blocks-field-requires
+    same-length
+    returns)

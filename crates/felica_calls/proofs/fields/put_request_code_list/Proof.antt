@@ -1,0 +1,35 @@
+-- `felica_calls::fields::put_request_code_list` meets its contract: field after field.
+-- Assumes nothing.
+use Rattle.felica_calls.proofs.Laws.{put-then}
+use borrow.Author.Needs.{needs}
+use Rattle.felica_calls.proofs.fields.put_request_code_list.Statement.{statement}
+use Rattle.felica_calls.proofs.fields.put_request_code_list.Tie as tie
+
+slice-aggregate-put-word-field : tie.Need-slice-aggregate-put-word-field
+slice-aggregate-put-word-field c = search needs
+
+put-word-field-requires : tie.Need-put-word-field-requires
+put-word-field-requires c κs = search needs
+
+slice-aggregate-put-word-field-2 : tie.Need-slice-aggregate-put-word-field-2
+slice-aggregate-put-word-field-2 c = search needs
+
+put-word-field-requires-2 : tie.Need-put-word-field-requires-2
+put-word-field-requires-2 c κs = search needs
+
+same-length : tie.Need-same-length
+same-length c = search needs
+
+returns : tie.Need-returns
+returns c = put-then _ _ _ (c .before .before .before .before .before .before .before .put-word-field .ensures) (c .before .before .put-word-field2 .ensures)
+
+pub put-request-code-list-spec : {M : Type 1} → statement M
+put-request-code-list-spec =
+    tie.close
+    (tie.spec
+    slice-aggregate-put-word-field
+    put-word-field-requires
+    slice-aggregate-put-word-field-2
+    put-word-field-requires-2
+    same-length
+    returns)

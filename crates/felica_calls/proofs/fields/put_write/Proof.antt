@@ -1,0 +1,31 @@
+-- `felica_calls::fields::put_write` meets its contract: field after field.
+-- Assumes nothing.
+use Rattle.felica_calls.proofs.Laws.{put-then}
+use borrow.Author.Needs.{needs}
+use Rattle.felica_calls.proofs.fields.put_write.Statement.{statement}
+use Rattle.felica_calls.proofs.fields.put_write.Tie as tie
+
+put-blocks-field-requires : tie.Need-put-blocks-field-requires
+put-blocks-field-requires c κs = search needs
+
+slice-aggregate-put-part-field : tie.Need-slice-aggregate-put-part-field
+slice-aggregate-put-part-field c = search needs
+
+put-part-field-requires : tie.Need-put-part-field-requires
+put-part-field-requires c κs = search needs
+
+same-length : tie.Need-same-length
+same-length c = search needs
+
+returns : tie.Need-returns
+returns c = put-then _ _ _ (c .before .before .before .before .before .before .before .put-blocks-field .ensures) (c .before .before .put-part-field .ensures)
+
+pub put-write-spec : {M : Type 1} → statement M
+put-write-spec =
+    tie.close
+    (tie.spec
+    put-blocks-field-requires
+    slice-aggregate-put-part-field
+    put-part-field-requires
+    same-length
+    returns)
