@@ -3,11 +3,14 @@
 -- Assumes nothing.
 use mathlib.Core.Path.{_≡_, refl, sym, ap, _∙_}
 use mathlib.Core.List.{List, [], _∷_, _++_}
-use Prim.Native.Nat.{ℕ, _+_, _≤_, _<_}
+use Prim.Native.Nat.{ℕ, suc, _+_, _≤_, _<_}
+use native.Mathlib.Nat.{zero-add}
 use native.Mathlib.Numerals.{add-one}
-use lib.ListN.{length, getD, drop, drop-of-length-le}
-use lib.Seq.{drop-cons}
-use Rattle.felica_calls.specs.Put.{Buffer, putByte, put}
+use native.Mathlib.Omega.{arith}
+use lib.ListN.{length, getD, set, take, drop, length-set, drop-of-length-le}
+use lib.Seq.{sets, sets-eq, drop-cons}
+use borrow.Author.Tests.{lt-ltb}
+use Rattle.felica_calls.specs.Put.{Buffer, buffer, putByte, put}
 
 pub put-append : (b : Buffer) (vs ws : List ℕ) → put b (vs ++ ws) ≡ put (put b vs) ws
 unfolding put
@@ -43,3 +46,20 @@ module _ {ℓ} {A : Type ℓ} (f : List A → List ℕ) (g : A → List ℕ) (co
 pub put-done {ℓ} : {A : Type ℓ} (f : List A → List ℕ) (b : Buffer) (s : List A) (i : ℕ) {all : Buffer} → f [] ≡ [] → length s ≤ i → put b (f (drop i s)) ≡ all
     → b ≡ all
 put-done f b s i n h e = put-none b (f (drop i s)) (ap f (drop-of-length-le s h) ∙ n) e
+
+-- Where there is room, the text stands in the buffer, and what lies before and behind it keeps its value.
+put-sets : (vs l : List ℕ) (at : ℕ) → at + length vs ≤ length l → put (buffer l at) vs ≡ buffer (sets l at vs) (at + length vs)
+unfolding put
+put-sets [] l at h = let n : at + 0 ≡ at = omega arith in rw n
+put-sets (v ∷ vs) l at h =
+    let room : at < length l = omega arith in
+    let n : at + suc (length vs) ≡ suc at + length vs = omega arith in
+    rw (lt-ltb _ _ room, add-one, n) (put-sets vs (set l at v) (suc at) (omega (arith, length-set l at v)))
+
+pub put-room : (vs l : List ℕ) (at : ℕ) → at + length vs ≤ length l
+    → put (buffer l at) vs ≡ buffer (take at l ++ vs ++ drop (at + length vs) l) (at + length vs)
+put-room vs l at h = put-sets vs l at h ∙ ap (λ m. buffer m (at + length vs)) (sets-eq vs l at h)
+
+-- the same from the start
+pub put-front : (vs l : List ℕ) → length vs ≤ length l → put (buffer l 0) vs ≡ buffer (vs ++ drop (length vs) l) (length vs)
+put-front vs l h = put-room vs l 0 (omega arith) ∙ ap (λ n. buffer (vs ++ drop n l) n) (zero-add (length vs))

@@ -3,3 +3,4 @@ pub mod Text
 pub mod Before
 pub mod Entries
 pub mod Rows
+pub mod Reading

@@ -1,9 +1,10 @@
 // A line as a call: a letter, then fields, each behind one space. The bytes of the last field go to a lent buffer.
 ghost use mathlib.Core.Path.{_≡_};
+ghost use lib.ListN.{drop};
 ghost use Rattle.felica_calls.specs.Text.{digitOf};
 ghost use Rattle.felica_calls.specs.Put.{buffer, put};
 ghost use Rattle.felica_calls.specs.Call.{called, decoded, readCall, kindOf, lastIs, readLast, readSecureCall, readCommandCode};
-ghost use Rattle.felica_calls.specs.Call.{securePayload, readBytes, bytesOf, allDigits, byteOf, valueOf};
+ghost use Rattle.felica_calls.specs.Call.{fieldOf, behindField, readBytes, isDash, bytesOf, allDigits, byteOf, valueOf};
 use crate::fault::Fault;
 use crate::find::find;
 use crate::hex::Digit;
@@ -42,14 +43,38 @@ pub fn read_call(line: &[u8], bytes: &mut [u8]) -> Call
     if line.len() == 0 {
         return Call::Wrong(Fault::EmptyLine);
     }
-    let end = find(line, b' ');
-    let kind = kind_of(&line[..end]);
+    let kind = kind_of(field_of(line));
     match kind {
-        Kind::Frame => read_frame(&line[end..], bytes),
-        Kind::Payload => read_payload(&line[end..], bytes),
-        Kind::Secure => read_secure(&line[end..], bytes),
+        Kind::Frame => read_frame(behind_field(line), bytes),
+        Kind::Payload => read_payload(behind_field(line), bytes),
+        Kind::Secure => read_secure(behind_field(line), bytes),
         Kind::Unknown => Call::Wrong(Fault::UnknownCall),
     }
+}
+
+// The first field.
+fn field_of(text: &[u8]) -> &[u8]
+    ensures { λ r. ⌜ now r ≡ fieldOf (now (text .entry)) ⌝ }
+{
+    let end = find(text, b' ');
+    &text[..end]
+}
+
+// What follows the first field: nothing, or a space and the next field.
+fn behind_field(text: &[u8]) -> &[u8]
+    ensures { λ r. ⌜ now r ≡ behindField (now (text .entry)) ⌝ }
+{
+    let end = find(text, b' ');
+    &text[end..]
+}
+
+fn behind_space(text: &[u8]) -> &[u8]
+    ensures { λ r. ⌜ now r ≡ drop 1 (now (text .entry)) ⌝ }
+{
+    if text.len() == 0 {
+        return text;
+    }
+    &text[1..]
 }
 
 fn kind_of(name: &[u8]) -> Kind
@@ -93,11 +118,10 @@ fn read_secure(rest: &[u8], bytes: &mut [u8]) -> Call
     if rest.len() == 0 {
         return Call::Wrong(Fault::MissingField);
     }
-    let field = &rest[1..];
-    let end = find(field, b' ');
-    let first = read_code(&field[..end]);
+    let fields = behind_space(rest);
+    let first = read_code(field_of(fields));
     match first {
-        Code::Code(code) => read_secure_payload(code, &field[end..], bytes),
+        Code::Code(code) => read_secure_payload(code, behind_field(fields), bytes),
         Code::Wrong(fault) => Call::Wrong(fault),
     }
 }
@@ -136,7 +160,7 @@ fn read_last(rest: &[u8], bytes: &mut [u8]) -> Bytes
     if rest.len() == 0 {
         return Bytes::Wrong(Fault::MissingField);
     }
-    let field = &rest[1..];
+    let field = behind_space(rest);
     if find(field, b' ') < field.len() {
         return Bytes::Wrong(Fault::ExtraField);
     }
@@ -149,10 +173,8 @@ fn read_bytes(field: &[u8], bytes: &mut [u8]) -> Bytes
     if field.len() == 0 {
         return Bytes::Wrong(Fault::MissingField);
     }
-    if field.len() == 1 {
-        if field[0] == b'-' {
-            return Bytes::Count(0);
-        }
+    if is_dash(field) {
+        return Bytes::Count(0);
     }
     if !all_digits(field) {
         return Bytes::Wrong(Fault::NoDigit);
@@ -166,6 +188,15 @@ fn read_bytes(field: &[u8], bytes: &mut [u8]) -> Bytes
     }
     decode(field, bytes);
     Bytes::Count(count)
+}
+
+fn is_dash(field: &[u8]) -> bool
+    ensures { λ r. ⌜ r ≡ isDash (now (field .entry)) ⌝ }
+{
+    if field.len() != 1 {
+        return false;
+    }
+    field[0] == b'-'
 }
 
 fn decode(field: &[u8], bytes: &mut [u8]) -> usize

@@ -1,27 +1,23 @@
+-- `felica_calls::call::byte_of` meets its contract.
+-- Assumes nothing.
+use native.Mathlib.Omega.{arith}
+use Rattle.felica_calls.proofs.Reading.{value-small}
 use borrow.Author.Needs.{needs}
 use Rattle.felica_calls.proofs.call.byte_of.Statement.{statement}
 use Rattle.felica_calls.proofs.call.byte_of.Tie as tie
-use Rattle.felica_calls.proofs.call.byte_of.Reads as reads
-use Rattle.felica_calls.proofs.call.byte_of.Lts as lts
-use Rattle.felica_calls.proofs.call.value_of.Reads as value-of-reads
 
--- src/call.rt:201:10
 value-of-requires : tie.Need-value-of-requires
 value-of-requires c κs = search needs
 
--- src/call.rt:201:5
 mul-result : tie.Need-mul-result
-mul-result c = ?
+mul-result c = omega (arith, c .value-of .ensures, value-small (c .before .args .high))
 
--- src/call.rt:201:27
 value-of-requires-2 : tie.Need-value-of-requires-2
 value-of-requires-2 c κs = search needs
 
--- src/call.rt:201:5
 add-result : tie.Need-add-result
-add-result c = ?
+add-result c = omega (arith, c .before .value-of .ensures, value-small (c .before .before .args .high), c .value-of2 .ensures, value-small (c .before .before .args .low))
 
--- src/call.rt:198:1
 returns : tie.Need-returns
 returns c = search needs
 

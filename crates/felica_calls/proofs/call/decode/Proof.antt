@@ -1,67 +1,65 @@
+-- `felica_calls::call::decode` meets its contract: byte after byte.
+-- Assumes nothing.
+use borrow.Author.Needs.{needs}
+use native.Mathlib.Omega.{arith}
+use Prim.Native.Nat.{_*_, _-_, _/_, _≤_}
+use mathlib.Core.Path.{_≡_, refl, sym, ap, _∙_}
+use mathlib.Core.List.{[], _∷_}
+use lib.ListN.{length, drop}
+use Rattle.felica_calls.specs.Put.{buffer, put}
+use Rattle.felica_calls.specs.Call.{bytesOf}
+use Rattle.felica_calls.proofs.Laws.{put-rest, put-none}
+use Rattle.felica_calls.proofs.Reading.{bytes-next, bytes-end}
 use Rattle.felica_calls.proofs.call.decode.Statement.{statement}
 use Rattle.felica_calls.proofs.call.decode.Tie as tie
-use Rattle.felica_calls.proofs.call.decode.Reads as reads
-use Rattle.felica_calls.proofs.call.decode.Lts as lts
-use Rattle.felica_calls.proofs.call.byte_of.Reads as byte-of-reads
-use Rattle.felica_calls.proofs.put.put_byte.Reads as put-byte-reads
 
 abbrev Inv-loop : tie.InvT-loop
-Inv-loop field bytes₀ count next₀ i₀ bytes next i = ?
+Inv-loop field bytes₀ count next₀ i₀ bytes next i = (i ≤ count) × (length bytes ≡ length bytes₀) × (put (buffer bytes next) (bytesOf (drop (2 * i) field)) ≡ put (buffer bytes₀ 0) (bytesOf field))
 
 abbrev μ-loop : tie.MeasureT-loop
-μ-loop field bytes₀ count next₀ i₀ bytes next i = ?
+μ-loop field bytes₀ count next₀ i₀ bytes next i = count - i
 
--- src/call.rt:177:5
 loop-holds : tie.Need-loop-holds Inv-loop μ-loop
-loop-holds c = ?
+loop-holds c = (omega arith, refl, refl)
 
--- src/call.rt:178:52
 mul-byte-of : tie.Need-mul-byte-of Inv-loop μ-loop
-mul-byte-of c = ?
+mul-byte-of c = omega arith
 
--- src/call.rt:178:46
 shared-slice-read-byte-of : tie.Need-shared-slice-read-byte-of Inv-loop μ-loop
-shared-slice-read-byte-of c = ?
+shared-slice-read-byte-of c = omega arith
 
--- src/call.rt:178:66
 mul-byte-of-2 : tie.Need-mul-byte-of-2 Inv-loop μ-loop
-mul-byte-of-2 c = ?
+mul-byte-of-2 c = omega arith
 
--- src/call.rt:178:66
 add-byte-of : tie.Need-add-byte-of Inv-loop μ-loop
-add-byte-of c = ?
+add-byte-of c = omega arith
 
--- src/call.rt:178:60
 shared-slice-read-byte-of-2 : tie.Need-shared-slice-read-byte-of-2 Inv-loop μ-loop
-shared-slice-read-byte-of-2 c = ?
+shared-slice-read-byte-of-2 c = omega arith
 
--- src/call.rt:178:38
 byte-of-requires : tie.Need-byte-of-requires Inv-loop μ-loop
-byte-of-requires c κs = ?
+byte-of-requires c κs = search needs
 
--- src/call.rt:178:9
 put-byte-requires : tie.Need-put-byte-requires Inv-loop μ-loop
-put-byte-requires c κs = ?
+put-byte-requires c κs = search needs
 
--- src/call.rt:179:9
 add-i : tie.Need-add-i Inv-loop μ-loop
-add-i c = ?
+add-i c = omega arith
 
--- src/call.rt:177:5
 loop-less : tie.Need-loop-less Inv-loop μ-loop
-loop-less c = ?
+loop-less c = omega arith
 
--- src/call.rt:177:5
 loop-again : tie.Need-loop-again Inv-loop μ-loop
-loop-again c = ?
+loop-again c = let l = c .before .before .before .before .before .before .before .before .loop in
+    let w = c .before .before .put-byte in
+    let e = bytes-next (c .before .before .before .before .before .before .before .before .before .before .before .args .field .now) (l .i) (omega arith) in
+    (omega arith, w .kept .0 ∙ l .inv .1, put-rest _ _ _ (ap (put _) (sym e) ∙ l .inv .2) (rw (c .before .before .before .byte-of .ensures) at (w .ensures)))
 
--- src/call.rt:171:1
 same-length : tie.Need-same-length Inv-loop μ-loop
-same-length c = ?
+same-length c = c .before .loop .inv .1
 
--- src/call.rt:171:1
 returns : tie.Need-returns Inv-loop μ-loop
-returns c = ?
+returns c = put-none _ _ (bytes-end (c .before .before .before .before .args .field .now) (c .before .loop .i) (c .loop-test .left)) (c .before .loop .inv .2)
 
 pub decode-spec : {M : Type 1} → statement M
 decode-spec =
