@@ -3,9 +3,8 @@
 use native.Mathlib.Omega.{arith}
 use Prim.Native.Nat.{_+_, _-_, _≤_}
 use mathlib.Core.Path.{_≡_, sym, _∙_}
-use lib.ListN.{length, take, drop, length-drop, drop-of-length-le}
-use lib.Seq.{take-all, take-nil}
 use lib.ListN.{length, drop, length-drop, drop-of-length-le}
+use lib.Seq.{take-all, take-nil}
 use borrow.Author.Needs.{needs}
 use Rattle.felica_calls.proofs.field.bytes_of.Statement.{statement}
 use Rattle.felica_calls.proofs.field.bytes_of.Tie as tie

@@ -1,9 +1,9 @@
--- `felica_calls::field::put_blocks_field` meets its contract: the name, then the value.
+-- `felica_calls::field::put_block_list` meets its contract: the name, then the value.
 -- Assumes nothing.
 use Rattle.felica_calls.proofs.Laws.{put-then}
 use borrow.Author.Needs.{needs}
-use Rattle.felica_calls.proofs.field.put_blocks_field.Statement.{statement}
-use Rattle.felica_calls.proofs.field.put_blocks_field.Tie as tie
+use Rattle.felica_calls.proofs.field.put_block_list.Statement.{statement}
+use Rattle.felica_calls.proofs.field.put_block_list.Tie as tie
 
 slice-aggregate-put-bytes : tie.Need-slice-aggregate-put-bytes
 slice-aggregate-put-bytes c = search needs
@@ -20,7 +20,7 @@ same-length c = search needs
 returns : tie.Need-returns
 returns c = put-then _ _ _ (c .before .before .before .before .before .before .put-bytes .ensures) (c .before .before .put-blocks .ensures)
 
-pub put-blocks-field-spec : {M : Type 1} → statement M
-put-blocks-field-spec =
+pub put-block-list-spec : {M : Type 1} → statement M
+put-block-list-spec =
     tie.close
     (tie.spec slice-aggregate-put-bytes put-bytes-requires put-blocks-requires same-length returns)

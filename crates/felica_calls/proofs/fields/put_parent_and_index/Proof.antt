@@ -1,0 +1,22 @@
+-- `felica_calls::fields::put_parent_and_index` meets its contract: field after field.
+-- Assumes nothing.
+use Rattle.felica_calls.proofs.Laws.{put-then}
+use borrow.Author.Needs.{needs}
+use Rattle.felica_calls.proofs.fields.put_parent_and_index.Statement.{statement}
+use Rattle.felica_calls.proofs.fields.put_parent_and_index.Tie as tie
+
+put-parent-requires : tie.Need-put-parent-requires
+put-parent-requires c κs = search needs
+
+put-index-requires : tie.Need-put-index-requires
+put-index-requires c κs = search needs
+
+same-length : tie.Need-same-length
+same-length c = search needs
+
+returns : tie.Need-returns
+returns c = put-then _ _ _ (c .before .before .before .before .before .before .put-parent .ensures) (c .before .before .put-index .ensures)
+
+pub put-parent-and-index-spec : {M : Type 1} → statement M
+put-parent-and-index-spec =
+    tie.close (tie.spec put-parent-requires put-index-requires same-length returns)

@@ -1,0 +1,25 @@
+-- `felica_calls::fields::put_type_and_nodes` meets its contract: field after field.
+-- Assumes nothing.
+use Rattle.felica_calls.proofs.Laws.{put-then}
+use borrow.Author.Needs.{needs}
+use Rattle.felica_calls.proofs.fields.put_type_and_nodes.Statement.{statement}
+use Rattle.felica_calls.proofs.fields.put_type_and_nodes.Tie as tie
+
+to-byte-requires : tie.Need-to-byte-requires
+to-byte-requires c κs = search needs
+
+put-type-requires : tie.Need-put-type-requires
+put-type-requires c κs = search needs
+
+put-first-requires : tie.Need-put-first-requires
+put-first-requires c κs = search needs
+
+same-length : tie.Need-same-length
+same-length c = search needs
+
+returns : tie.Need-returns
+returns c = put-then _ _ _ (rw (c .before .before .before .before .before .before .before .to-byte .ensures) at (c .before .before .before .before .before .before .put-type .ensures)) (c .before .before .put-first .ensures)
+
+pub put-type-and-nodes-spec : {M : Type 1} → statement M
+put-type-and-nodes-spec =
+    tie.close (tie.spec to-byte-requires put-type-requires put-first-requires same-length returns)
