@@ -131,7 +131,7 @@ refusalText (Number n) = text "NO " ++ (decimalText n ++ text " --")
 refusalText (OfCommand n code) = text "NO " ++ (decimalText n ++ (text " " ++ byteText code))
 
 abbrev pub commandText : List ℕ → List ℕ → List ℕ → FelicaStandardCommand → List ℕ
-commandText s idm ch kind = (text "OK " ++ byteText (fieldsOf kind .code)) ++ rowText idm (rowOf s ch kind)
+commandText s idm ch kind = text "OK " ++ (byteText (fieldsOf kind .code) ++ rowText idm (rowOf s ch kind))
 
 abbrev pub answerText : List ℕ → List ℕ → List ℕ → Answer → List ℕ
 answerText s idm ch (AnswerCommand kind) = commandText s idm ch kind

@@ -1,10 +1,8 @@
 // The line that answers a call: `OK`, the code and the fields of the command, or `NO`, the number of the refusal and the code.
 ghost use mathlib.Core.Path.{_≡_};
-ghost use mathlib.Core.List.{_++_};
 ghost use Rattle.felica_command.specs.Meaning.{fieldsOf};
-ghost use Rattle.felica_calls.specs.Text.{text, byteText};
 ghost use Rattle.felica_calls.specs.Put.{buffer, put};
-ghost use Rattle.felica_calls.specs.Answer.{refusalText, lineOf};
+ghost use Rattle.felica_calls.specs.Answer.{refusalText, commandText, lineOf};
 use crate::fields::put_fields;
 use crate::put::put_byte;
 use crate::put::put_bytes;
@@ -25,8 +23,7 @@ pub fn put_answer(out: &mut [u8], at: usize, payload: &[u8], parsed: Parsed) -> 
         Answer::Command(command) => {
             let idm = parsed.idm;
             let challenge = parsed.challenge;
-            let next = put_code(out, at, command);
-            put_fields(out, next, payload, command, idm, challenge)
+            put_command(out, at, payload, command, idm, challenge)
         }
         Answer::Refused(refusal) => put_refusal(out, at, refusal),
     }
@@ -49,11 +46,19 @@ fn put_refusal(out: &mut [u8], at: usize, refusal: Refusal) -> usize
     }
 }
 
-fn put_code(out: &mut [u8], at: usize, command: Command) -> usize
-    ensures { λ r. ⌜ buffer (now (out .exit)) r ≡ put (buffer (now (out .entry)) at) (text "OK " ++ byteText (fieldsOf command .code)) ⌝ }
+fn put_command(
+    out: &mut [u8],
+    at: usize,
+    payload: &[u8],
+    command: Command,
+    idm: [u8; 8],
+    challenge: [u8; 16],
+) -> usize
+    ensures { λ r. ⌜ buffer (now (out .exit)) r ≡ put (buffer (now (out .entry)) at) (commandText (now (payload .entry)) idm challenge command) ⌝ }
 {
-    let next = put_bytes(out, at, b"OK ");
-    put_hex_byte(out, next, code_of(command))
+    let code_at = put_bytes(out, at, b"OK ");
+    let next = put_hex_byte(out, code_at, code_of(command));
+    put_fields(out, next, payload, command, idm, challenge)
 }
 
 fn code_of(command: Command) -> u8

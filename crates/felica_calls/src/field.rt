@@ -1,11 +1,11 @@
-// The fields of an answer, each behind a space: the name, `=` and the value.
+// The fields of an answer: a space, the name, `=` and the value. A name is passed with its space and its `=`.
 ghost use mathlib.Core.Path.{_≡_};
 ghost use mathlib.Core.List.{_++_};
 ghost use Rattle.felica_command.specs.Meaning.{bytesAt};
 ghost use Rattle.felica_calls.specs.Text.{byteText, wordText, bytesText};
 ghost use Rattle.felica_calls.specs.Put.{buffer, put};
 ghost use Rattle.felica_calls.specs.Entries.{codesText};
-ghost use Rattle.felica_calls.specs.Answer.{byteField, wordField, idmField, firstField, secondField, blocksField, dataField, packageField};
+ghost use Rattle.felica_calls.specs.Answer.{wordField, idmField, firstField, blocksField, packageField};
 ghost use Rattle.felica_calls.specs.Answer.{challenge8, challenge16, issueFields};
 use crate::list::put_blocks;
 use crate::list::put_codes;
@@ -28,23 +28,11 @@ pub(crate) fn put_first(out: &mut [u8], at: usize, payload: &[u8], list: Part) -
     put_codes_field(out, at, b" first=", payload, list)
 }
 
-pub(crate) fn put_second(out: &mut [u8], at: usize, payload: &[u8], list: Part) -> usize
-    ensures { λ r. ⌜ buffer (now (out .exit)) r ≡ put (buffer (now (out .entry)) at) (secondField (now (payload .entry)) list) ⌝ }
-{
-    put_codes_field(out, at, b" second=", payload, list)
-}
-
 pub(crate) fn put_block_list(out: &mut [u8], at: usize, payload: &[u8], list: Part) -> usize
     ensures { λ r. ⌜ buffer (now (out .exit)) r ≡ put (buffer (now (out .entry)) at) (blocksField (now (payload .entry)) list) ⌝ }
 {
     let next = put_bytes(out, at, b" blocks=");
     put_blocks(out, next, payload, list)
-}
-
-pub(crate) fn put_data(out: &mut [u8], at: usize, payload: &[u8], part: Part) -> usize
-    ensures { λ r. ⌜ buffer (now (out .exit)) r ≡ put (buffer (now (out .entry)) at) (dataField (now (payload .entry)) part) ⌝ }
-{
-    put_part_field(out, at, b" data=", payload, part)
 }
 
 pub(crate) fn put_package(out: &mut [u8], at: usize, payload: &[u8], part: Part) -> usize
@@ -73,22 +61,10 @@ pub(crate) fn put_issue(out: &mut [u8], at: usize, challenge: [u8; 16]) -> usize
     put_hex_field(out, next, b" issue_parameter=", &challenge[8..])
 }
 
-pub(crate) fn put_system(out: &mut [u8], at: usize, value: u16) -> usize
-    ensures { λ r. ⌜ buffer (now (out .exit)) r ≡ put (buffer (now (out .entry)) at) (wordField " system=" value) ⌝ }
-{
-    put_word_field(out, at, b" system=", value)
-}
-
 pub(crate) fn put_index(out: &mut [u8], at: usize, value: u16) -> usize
     ensures { λ r. ⌜ buffer (now (out .exit)) r ≡ put (buffer (now (out .entry)) at) (wordField " index=" value) ⌝ }
 {
     put_word_field(out, at, b" index=", value)
-}
-
-pub(crate) fn put_parent(out: &mut [u8], at: usize, value: u16) -> usize
-    ensures { λ r. ⌜ buffer (now (out .exit)) r ≡ put (buffer (now (out .entry)) at) (wordField " parent=" value) ⌝ }
-{
-    put_word_field(out, at, b" parent=", value)
 }
 
 pub(crate) fn put_node(out: &mut [u8], at: usize, value: u16) -> usize
@@ -103,50 +79,14 @@ pub(crate) fn put_property(out: &mut [u8], at: usize, value: u16) -> usize
     put_word_field(out, at, b" property=", value)
 }
 
-pub(crate) fn put_request(out: &mut [u8], at: usize, value: u8) -> usize
-    ensures { λ r. ⌜ buffer (now (out .exit)) r ≡ put (buffer (now (out .entry)) at) (byteField " request=" value) ⌝ }
-{
-    put_byte_field(out, at, b" request=", value)
-}
-
-pub(crate) fn put_slots(out: &mut [u8], at: usize, value: u8) -> usize
-    ensures { λ r. ⌜ buffer (now (out .exit)) r ≡ put (buffer (now (out .entry)) at) (byteField " slots=" value) ⌝ }
-{
-    put_byte_field(out, at, b" slots=", value)
-}
-
-pub(crate) fn put_encryption(out: &mut [u8], at: usize, value: u8) -> usize
-    ensures { λ r. ⌜ buffer (now (out .exit)) r ≡ put (buffer (now (out .entry)) at) (byteField " encryption=" value) ⌝ }
-{
-    put_byte_field(out, at, b" encryption=", value)
-}
-
-pub(crate) fn put_packet(out: &mut [u8], at: usize, value: u8) -> usize
-    ensures { λ r. ⌜ buffer (now (out .exit)) r ≡ put (buffer (now (out .entry)) at) (byteField " packet=" value) ⌝ }
-{
-    put_byte_field(out, at, b" packet=", value)
-}
-
-pub(crate) fn put_type(out: &mut [u8], at: usize, value: u8) -> usize
-    ensures { λ r. ⌜ buffer (now (out .exit)) r ≡ put (buffer (now (out .entry)) at) (byteField " type=" value) ⌝ }
-{
-    put_byte_field(out, at, b" type=", value)
-}
-
-pub(crate) fn put_operation(out: &mut [u8], at: usize, value: u8) -> usize
-    ensures { λ r. ⌜ buffer (now (out .exit)) r ≡ put (buffer (now (out .entry)) at) (byteField " operation=" value) ⌝ }
-{
-    put_byte_field(out, at, b" operation=", value)
-}
-
-fn put_byte_field(out: &mut [u8], at: usize, name: &[u8], value: u8) -> usize
+pub(crate) fn put_byte_field(out: &mut [u8], at: usize, name: &[u8], value: u8) -> usize
     ensures { λ r. ⌜ buffer (now (out .exit)) r ≡ put (buffer (now (out .entry)) at) (now (name .entry) ++ byteText value) ⌝ }
 {
     let next = put_bytes(out, at, name);
     put_hex_byte(out, next, value)
 }
 
-fn put_word_field(out: &mut [u8], at: usize, name: &[u8], value: u16) -> usize
+pub(crate) fn put_word_field(out: &mut [u8], at: usize, name: &[u8], value: u16) -> usize
     ensures { λ r. ⌜ buffer (now (out .exit)) r ≡ put (buffer (now (out .entry)) at) (now (name .entry) ++ wordText value) ⌝ }
 {
     let next = put_bytes(out, at, name);
@@ -160,14 +100,26 @@ fn put_hex_field(out: &mut [u8], at: usize, name: &[u8], value: &[u8]) -> usize
     put_hex(out, next, value)
 }
 
-fn put_codes_field(out: &mut [u8], at: usize, name: &[u8], payload: &[u8], list: Part) -> usize
+pub(crate) fn put_codes_field(
+    out: &mut [u8],
+    at: usize,
+    name: &[u8],
+    payload: &[u8],
+    list: Part,
+) -> usize
     ensures { λ r. ⌜ buffer (now (out .exit)) r ≡ put (buffer (now (out .entry)) at) (now (name .entry) ++ codesText (now (payload .entry)) list) ⌝ }
 {
     let next = put_bytes(out, at, name);
     put_codes(out, next, payload, list)
 }
 
-fn put_part_field(out: &mut [u8], at: usize, name: &[u8], payload: &[u8], part: Part) -> usize
+pub(crate) fn put_part_field(
+    out: &mut [u8],
+    at: usize,
+    name: &[u8],
+    payload: &[u8],
+    part: Part,
+) -> usize
     ensures { λ r. ⌜ buffer (now (out .exit)) r ≡ put (buffer (now (out .entry)) at) (now (name .entry) ++ bytesText (bytesAt (now (payload .entry)) part)) ⌝ }
 {
     put_hex_field(out, at, name, bytes_of(payload, part))

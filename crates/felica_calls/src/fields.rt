@@ -7,25 +7,19 @@ ghost use Rattle.felica_calls.specs.Put.{buffer, put};
 ghost use Rattle.felica_calls.specs.Answer.{byteField, wordField, firstField, secondField, blocksField, dataField};
 ghost use Rattle.felica_calls.specs.Answer.{rowOf, rowText, idmText};
 use crate::field::put_block_list;
+use crate::field::put_byte_field;
 use crate::field::put_challenge_8;
 use crate::field::put_challenge_16;
-use crate::field::put_data;
-use crate::field::put_encryption;
+use crate::field::put_codes_field;
 use crate::field::put_first;
 use crate::field::put_idm;
 use crate::field::put_index;
 use crate::field::put_issue;
 use crate::field::put_node;
-use crate::field::put_operation;
 use crate::field::put_package;
-use crate::field::put_packet;
-use crate::field::put_parent;
+use crate::field::put_part_field;
 use crate::field::put_property;
-use crate::field::put_request;
-use crate::field::put_second;
-use crate::field::put_slots;
-use crate::field::put_system;
-use crate::field::put_type;
+use crate::field::put_word_field;
 use felica_command::command::FelicaStandardCommand as Command;
 use felica_command::command::Part;
 use felica_command::types::NodePropertyType;
@@ -183,7 +177,7 @@ fn put_areas_and_services(
     ensures { λ r. ⌜ buffer (now (out .exit)) r ≡ put (buffer (now (out .entry)) at) (firstField (now (payload .entry)) areas ++ secondField (now (payload .entry)) services) ⌝ }
 {
     let next = put_first(out, at, payload, areas);
-    put_second(out, next, payload, services)
+    put_codes_field(out, next, b" second=", payload, services)
 }
 
 fn put_type_and_nodes(
@@ -195,7 +189,7 @@ fn put_type_and_nodes(
 ) -> usize
     ensures { λ r. ⌜ buffer (now (out .exit)) r ≡ put (buffer (now (out .entry)) at) (byteField " type=" (nodePropertyByte «node_property_type») ++ firstField (now (payload .entry)) «node_codes») ⌝ }
 {
-    let next = put_type(out, at, node_property_type.to_byte());
+    let next = put_byte_field(out, at, b" type=", node_property_type.to_byte());
     put_first(out, next, payload, node_codes)
 }
 
@@ -208,7 +202,7 @@ fn put_operation_and_nodes(
 ) -> usize
     ensures { λ r. ⌜ buffer (now (out .exit)) r ≡ put (buffer (now (out .entry)) at) (byteField " operation=" «operation_parameter» ++ firstField (now (payload .entry)) nodes) ⌝ }
 {
-    let next = put_operation(out, at, operation_parameter);
+    let next = put_byte_field(out, at, b" operation=", operation_parameter);
     put_first(out, next, payload, nodes)
 }
 
@@ -222,7 +216,7 @@ fn put_blocks_and_data(
     ensures { λ r. ⌜ buffer (now (out .exit)) r ≡ put (buffer (now (out .entry)) at) (blocksField (now (payload .entry)) «block_list» ++ dataField (now (payload .entry)) «data») ⌝ }
 {
     let next = put_block_list(out, at, payload, block_list);
-    put_data(out, next, payload, data)
+    put_part_field(out, next, b" data=", payload, data)
 }
 
 fn put_polling(
@@ -234,15 +228,15 @@ fn put_polling(
 ) -> usize
     ensures { λ r. ⌜ buffer (now (out .exit)) r ≡ put (buffer (now (out .entry)) at) (wordField " system=" «system_code» ++ (byteField " request=" «request_code» ++ byteField " slots=" «time_slots»)) ⌝ }
 {
-    let request_at = put_system(out, at, system_code);
-    let slots_at = put_request(out, request_at, request_code);
-    put_slots(out, slots_at, time_slots)
+    let request_at = put_word_field(out, at, b" system=", system_code);
+    let slots_at = put_byte_field(out, request_at, b" request=", request_code);
+    put_byte_field(out, slots_at, b" slots=", time_slots)
 }
 
 fn put_parent_and_index(out: &mut [u8], at: usize, parent: u16, index: u16) -> usize
     ensures { λ r. ⌜ buffer (now (out .exit)) r ≡ put (buffer (now (out .entry)) at) (wordField " parent=" parent ++ wordField " index=" index) ⌝ }
 {
-    let next = put_parent(out, at, parent);
+    let next = put_word_field(out, at, b" parent=", parent);
     put_index(out, next, index)
 }
 
@@ -254,6 +248,6 @@ fn put_types(
 ) -> usize
     ensures { λ r. ⌜ buffer (now (out .exit)) r ≡ put (buffer (now (out .entry)) at) (byteField " encryption=" (encryptionByte «encryption_type») ++ byteField " packet=" (packetByte «packet_type»)) ⌝ }
 {
-    let next = put_encryption(out, at, encryption_type.to_byte());
-    put_packet(out, next, packet_type.to_byte())
+    let next = put_byte_field(out, at, b" encryption=", encryption_type.to_byte());
+    put_byte_field(out, next, b" packet=", packet_type.to_byte())
 }

@@ -1,6 +1,5 @@
 -- `felica_calls::answer::put_answer` meets its contract.
 -- Assumes nothing.
-use Rattle.felica_calls.proofs.Laws.{put-then}
 use borrow.Author.Needs.{needs}
 use Rattle.felica_calls.proofs.answer.put_answer.Statement.{statement}
 use Rattle.felica_calls.proofs.answer.put_answer.Tie as tie
@@ -8,11 +7,8 @@ use Rattle.felica_calls.proofs.answer.put_answer.Tie as tie
 enum-known-answer : tie.Need-enum-known-answer
 enum-known-answer c = search needs
 
-put-code-requires : tie.Need-put-code-requires
-put-code-requires c κs = search needs
-
-put-fields-requires : tie.Need-put-fields-requires
-put-fields-requires c κs = search needs
+put-command-requires : tie.Need-put-command-requires
+put-command-requires c κs = search needs
 
 enum-known-answer-2 : tie.Need-enum-known-answer-2
 enum-known-answer-2 c = search needs
@@ -24,7 +20,7 @@ same-length : tie.Need-same-length
 same-length c = search needs
 
 returns : tie.Need-returns
-returns c = rw (c .before .before .before .before .before .before .before .before .before .before .before .answer .given .1) (put-then _ _ _ (c .before .before .before .before .before .before .put-code .ensures) (c .before .before .put-fields .ensures))
+returns c = rw (c .before .before .before .before .before .before .before .answer .given .1) (c .before .before .put-command .ensures)
 
 same-length-2 : tie.Need-same-length-2
 same-length-2 c = search needs
@@ -37,8 +33,7 @@ put-answer-spec =
     tie.close
     (tie.spec
     enum-known-answer
-    put-code-requires
-    put-fields-requires
+    put-command-requires
     enum-known-answer-2
     put-refusal-requires
     same-length

@@ -8,15 +8,24 @@ use Rattle.felica_calls.proofs.fields.put_blocks_and_data.Tie as tie
 put-block-list-requires : tie.Need-put-block-list-requires
 put-block-list-requires c κs = search needs
 
-put-data-requires : tie.Need-put-data-requires
-put-data-requires c κs = search needs
+slice-aggregate-put-part-field : tie.Need-slice-aggregate-put-part-field
+slice-aggregate-put-part-field c = search needs
+
+put-part-field-requires : tie.Need-put-part-field-requires
+put-part-field-requires c κs = search needs
 
 same-length : tie.Need-same-length
 same-length c = search needs
 
 returns : tie.Need-returns
-returns c = put-then _ _ _ (c .before .before .before .before .before .before .put-block-list .ensures) (c .before .before .put-data .ensures)
+returns c = put-then _ _ _ (c .before .before .before .before .before .before .before .put-block-list .ensures) (c .before .before .put-part-field .ensures)
 
 pub put-blocks-and-data-spec : {M : Type 1} → statement M
 put-blocks-and-data-spec =
-    tie.close (tie.spec put-block-list-requires put-data-requires same-length returns)
+    tie.close
+    (tie.spec
+    put-block-list-requires
+    slice-aggregate-put-part-field
+    put-part-field-requires
+    same-length
+    returns)

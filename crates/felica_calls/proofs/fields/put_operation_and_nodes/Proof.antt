@@ -5,8 +5,11 @@ use borrow.Author.Needs.{needs}
 use Rattle.felica_calls.proofs.fields.put_operation_and_nodes.Statement.{statement}
 use Rattle.felica_calls.proofs.fields.put_operation_and_nodes.Tie as tie
 
-put-operation-requires : tie.Need-put-operation-requires
-put-operation-requires c κs = search needs
+slice-aggregate-put-byte-field : tie.Need-slice-aggregate-put-byte-field
+slice-aggregate-put-byte-field c = search needs
+
+put-byte-field-requires : tie.Need-put-byte-field-requires
+put-byte-field-requires c κs = search needs
 
 put-first-requires : tie.Need-put-first-requires
 put-first-requires c κs = search needs
@@ -15,8 +18,14 @@ same-length : tie.Need-same-length
 same-length c = search needs
 
 returns : tie.Need-returns
-returns c = put-then _ _ _ (c .before .before .before .before .before .before .put-operation .ensures) (c .before .before .put-first .ensures)
+returns c = put-then _ _ _ (c .before .before .before .before .before .before .put-byte-field .ensures) (c .before .before .put-first .ensures)
 
 pub put-operation-and-nodes-spec : {M : Type 1} → statement M
 put-operation-and-nodes-spec =
-    tie.close (tie.spec put-operation-requires put-first-requires same-length returns)
+    tie.close
+    (tie.spec
+    slice-aggregate-put-byte-field
+    put-byte-field-requires
+    put-first-requires
+    same-length
+    returns)

@@ -5,8 +5,11 @@ use borrow.Author.Needs.{needs}
 use Rattle.felica_calls.proofs.fields.put_parent_and_index.Statement.{statement}
 use Rattle.felica_calls.proofs.fields.put_parent_and_index.Tie as tie
 
-put-parent-requires : tie.Need-put-parent-requires
-put-parent-requires c κs = search needs
+slice-aggregate-put-word-field : tie.Need-slice-aggregate-put-word-field
+slice-aggregate-put-word-field c = search needs
+
+put-word-field-requires : tie.Need-put-word-field-requires
+put-word-field-requires c κs = search needs
 
 put-index-requires : tie.Need-put-index-requires
 put-index-requires c κs = search needs
@@ -15,8 +18,14 @@ same-length : tie.Need-same-length
 same-length c = search needs
 
 returns : tie.Need-returns
-returns c = put-then _ _ _ (c .before .before .before .before .before .before .put-parent .ensures) (c .before .before .put-index .ensures)
+returns c = put-then _ _ _ (c .before .before .before .before .before .before .put-word-field .ensures) (c .before .before .put-index .ensures)
 
 pub put-parent-and-index-spec : {M : Type 1} → statement M
 put-parent-and-index-spec =
-    tie.close (tie.spec put-parent-requires put-index-requires same-length returns)
+    tie.close
+    (tie.spec
+    slice-aggregate-put-word-field
+    put-word-field-requires
+    put-index-requires
+    same-length
+    returns)

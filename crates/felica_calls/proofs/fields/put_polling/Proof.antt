@@ -5,22 +5,39 @@ use borrow.Author.Needs.{needs}
 use Rattle.felica_calls.proofs.fields.put_polling.Statement.{statement}
 use Rattle.felica_calls.proofs.fields.put_polling.Tie as tie
 
-put-system-requires : tie.Need-put-system-requires
-put-system-requires c κs = search needs
+slice-aggregate-put-word-field : tie.Need-slice-aggregate-put-word-field
+slice-aggregate-put-word-field c = search needs
 
-put-request-requires : tie.Need-put-request-requires
-put-request-requires c κs = search needs
+put-word-field-requires : tie.Need-put-word-field-requires
+put-word-field-requires c κs = search needs
 
-put-slots-requires : tie.Need-put-slots-requires
-put-slots-requires c κs = search needs
+slice-aggregate-put-byte-field : tie.Need-slice-aggregate-put-byte-field
+slice-aggregate-put-byte-field c = search needs
+
+put-byte-field-requires : tie.Need-put-byte-field-requires
+put-byte-field-requires c κs = search needs
+
+slice-aggregate-put-byte-field-2 : tie.Need-slice-aggregate-put-byte-field-2
+slice-aggregate-put-byte-field-2 c = search needs
+
+put-byte-field-requires-2 : tie.Need-put-byte-field-requires-2
+put-byte-field-requires-2 c κs = search needs
 
 same-length : tie.Need-same-length
 same-length c = search needs
 
 returns : tie.Need-returns
-returns c = put-then _ _ _ (c .before .before .before .before .before .before .before .before .before .before .put-system .ensures) (put-then _ _ _ (c .before .before .before .before .before .before .put-request .ensures) (c .before .before .put-slots .ensures))
+returns c = put-then _ _ _ (c .before .before .before .before .before .before .before .before .before .before .before .before .put-word-field .ensures) (put-then _ _ _ (c .before .before .before .before .before .before .before .put-byte-field .ensures) (c .before .before .put-byte-field2 .ensures))
 
 pub put-polling-spec : {M : Type 1} → statement M
 put-polling-spec =
     tie.close
-    (tie.spec put-system-requires put-request-requires put-slots-requires same-length returns)
+    (tie.spec
+    slice-aggregate-put-word-field
+    put-word-field-requires
+    slice-aggregate-put-byte-field
+    put-byte-field-requires
+    slice-aggregate-put-byte-field-2
+    put-byte-field-requires-2
+    same-length
+    returns)

@@ -5,31 +5,39 @@ use borrow.Author.Needs.{needs}
 use Rattle.felica_calls.proofs.fields.put_types.Statement.{statement}
 use Rattle.felica_calls.proofs.fields.put_types.Tie as tie
 
+slice-aggregate-put-byte-field : tie.Need-slice-aggregate-put-byte-field
+slice-aggregate-put-byte-field c = search needs
+
 to-byte-requires : tie.Need-to-byte-requires
 to-byte-requires c κs = search needs
 
-put-encryption-requires : tie.Need-put-encryption-requires
-put-encryption-requires c κs = search needs
+put-byte-field-requires : tie.Need-put-byte-field-requires
+put-byte-field-requires c κs = search needs
+
+slice-aggregate-put-byte-field-2 : tie.Need-slice-aggregate-put-byte-field-2
+slice-aggregate-put-byte-field-2 c = search needs
 
 to-byte-requires-2 : tie.Need-to-byte-requires-2
 to-byte-requires-2 c κs = search needs
 
-put-packet-requires : tie.Need-put-packet-requires
-put-packet-requires c κs = search needs
+put-byte-field-requires-2 : tie.Need-put-byte-field-requires-2
+put-byte-field-requires-2 c κs = search needs
 
 same-length : tie.Need-same-length
 same-length c = search needs
 
 returns : tie.Need-returns
-returns c = put-then _ _ _ (rw (c .before .before .before .before .before .before .before .before .to-byte .ensures) at (c .before .before .before .before .before .before .before .put-encryption .ensures)) (rw (c .before .before .before .to-byte2 .ensures) at (c .before .before .put-packet .ensures))
+returns c = put-then _ _ _ (rw (c .before .before .before .before .before .before .before .before .before .to-byte .ensures) at (c .before .before .before .before .before .before .before .before .put-byte-field .ensures)) (rw (c .before .before .before .to-byte2 .ensures) at (c .before .before .put-byte-field2 .ensures))
 
 pub put-types-spec : {M : Type 1} → statement M
 put-types-spec =
     tie.close
     (tie.spec
+    slice-aggregate-put-byte-field
     to-byte-requires
-    put-encryption-requires
+    put-byte-field-requires
+    slice-aggregate-put-byte-field-2
     to-byte-requires-2
-    put-packet-requires
+    put-byte-field-requires-2
     same-length
     returns)
