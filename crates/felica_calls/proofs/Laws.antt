@@ -2,14 +2,16 @@
 -- here gives what putting all gives from the start.
 -- Assumes nothing.
 use mathlib.Core.Path.{_≡_, refl, sym, ap, _∙_}
+use mathlib.Core.Bool.{Bool, true, false}
 use mathlib.Core.List.{List, [], _∷_, _++_}
 use Prim.Native.Nat.{ℕ, suc, _+_, _≤_, _<_}
 use native.Mathlib.Nat.{zero-add}
 use native.Mathlib.Numerals.{add-one}
 use native.Mathlib.Omega.{arith}
 use lib.ListN.{length, getD, set, take, drop, length-set, drop-of-length-le}
-use lib.Seq.{sets, sets-eq, drop-cons}
-use borrow.Author.Tests.{lt-ltb}
+use lib.Seq.{sets, sets-eq, drop-cons, drop-set-lt}
+use lib.Dec.{ltb}
+use borrow.Author.Tests.{lt-ltb, ltb-true}
 use Rattle.felica_calls.specs.Put.{Buffer, buffer, putByte, put}
 
 pub put-append : (b : Buffer) (vs ws : List ℕ) → put b (vs ++ ws) ≡ put (put b vs) ws
@@ -63,3 +65,35 @@ put-room vs l at h = put-sets vs l at h ∙ ap (λ m. buffer m (at + length vs))
 -- the same from the start
 pub put-front : (vs l : List ℕ) → length vs ≤ length l → put (buffer l 0) vs ≡ buffer (vs ++ drop (length vs) l) (length vs)
 put-front vs l h = put-room vs l 0 (omega arith) ∙ ap (λ n. buffer (vs ++ drop n l) n) (zero-add (length vs))
+
+-- Whether or not there is room: the buffer keeps its length, the next place never falls and stays within the buffer, and from there on
+-- every byte keeps its value.
+pub record Kept (b c : Buffer) : Type 0 where
+  pub long : length (c .bytes) ≡ length (b .bytes)
+  pub onward : b .next ≤ c .next
+  pub within : b .next ≤ length (b .bytes) → c .next ≤ length (c .bytes)
+  pub behind : (n : ℕ) → c .next ≤ n → drop n (c .bytes) ≡ drop n (b .bytes)
+
+kept-byte : (b : Buffer) (v : ℕ) (room : Bool) → ltb (b .next) (length (b .bytes)) ≡ room → Kept b (putByte b v)
+kept-byte b v true e =
+    let h = ltb-true (b .next) (length (b .bytes)) e in
+    rw e (record {
+      long = length-set (b .bytes) (b .next) v;
+      onward = omega arith;
+      within = λ k. omega (arith, length-set (b .bytes) (b .next) v);
+      behind = λ n k. drop-set-lt n (b .bytes) (b .next) v (omega arith);
+    })
+kept-byte b v false e = rw e (record { long = refl; onward = omega arith; within = λ k. k; behind = λ n k. refl })
+
+pub kept : (b : Buffer) (vs : List ℕ) → Kept b (put b vs)
+unfolding put
+kept b [] = record { long = refl; onward = omega arith; within = λ k. k; behind = λ n k. refl }
+kept b (v ∷ vs) =
+    let first = kept-byte b v (ltb (b .next) (length (b .bytes))) refl in
+    let rest = kept (putByte b v) vs in
+    record {
+      long = rest .long ∙ first .long;
+      onward = omega (arith, rest .onward, first .onward);
+      within = λ k. rest .within (first .within k);
+      behind = λ n k. rest .behind n k ∙ first .behind n (omega (arith, rest .onward));
+    }

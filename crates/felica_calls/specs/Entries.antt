@@ -9,10 +9,10 @@ use Rattle.felica_format.specs.Read.{readElement}
 use Rattle.felica_command.specs.Types.{elementIs}
 use Rattle.felica_command.specs.declared.command.Part.{Part}
 use Rattle.felica_calls.specs.Text.{text, digitText, wordText}
-use Rattle.felica_calls.specs.declared.element.CodeRead.{CodeRead}
-use Rattle.felica_calls.specs.declared.element.CodeRead.the-variants.{Code, Refused as CodeRefused}
-use Rattle.felica_calls.specs.declared.element.ElementRead.{ElementRead}
-use Rattle.felica_calls.specs.declared.element.ElementRead.the-variants.{Element as AnElement, Refused as ElementRefused}
+use Rattle.felica_calls.specs.declared.entry.CodeRead.{CodeRead}
+use Rattle.felica_calls.specs.declared.entry.CodeRead.the-variants.{Code, Refused as CodeRefused}
+use Rattle.felica_calls.specs.declared.entry.ElementRead.{ElementRead}
+use Rattle.felica_calls.specs.declared.entry.ElementRead.the-variants.{Element as AnElement, Refused as ElementRefused}
 
 -- one code of a list; 13: code list cut off
 unfoldable pub readCode : List ℕ → Step ℕ

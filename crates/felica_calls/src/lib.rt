@@ -1,11 +1,11 @@
 // Calls and answers, a line each: a line is read as a call with its bytes, and what a parse gives is written as the line that answers it.
 pub mod answer;
 pub mod call;
-pub mod element;
+mod entry;
 pub mod fault;
-pub mod field;
-pub mod fields;
+mod field;
+mod fields;
 pub mod find;
 pub mod hex;
-pub mod list;
+mod list;
 pub mod put;

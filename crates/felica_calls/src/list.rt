@@ -6,17 +6,17 @@ ghost use Rattle.felica_command.specs.Types.{elementIs};
 ghost use Rattle.felica_calls.specs.Text.{wordText};
 ghost use Rattle.felica_calls.specs.Put.{buffer, put};
 ghost use Rattle.felica_calls.specs.Entries.{readCode, elementText, moreText, codesText, blocksText};
-use crate::element::CodeRead;
-use crate::element::ElementRead;
-use crate::element::code_at;
-use crate::element::element_at;
+use crate::entry::CodeRead;
+use crate::entry::ElementRead;
+use crate::entry::code_at;
+use crate::entry::element_at;
 use crate::hex::hex_digit;
 use crate::put::put_byte;
 use crate::put::put_hex_word;
 use felica_command::command::Part;
 use felica_command::types::BlockListElement;
 
-pub fn put_codes(out: &mut [u8], at: usize, payload: &[u8], list: Part) -> usize
+pub(crate) fn put_codes(out: &mut [u8], at: usize, payload: &[u8], list: Part) -> usize
     ensures { λ r. ⌜ buffer (now (out .exit)) r ≡ put (buffer (now (out .entry)) at) (codesText (now (payload .entry)) list) ⌝ }
 {
     let start = list.start;
@@ -51,7 +51,7 @@ fn put_more_codes(out: &mut [u8], at: usize, payload: &[u8], start: usize, count
     next
 }
 
-pub fn put_blocks(out: &mut [u8], at: usize, payload: &[u8], list: Part) -> usize
+pub(crate) fn put_blocks(out: &mut [u8], at: usize, payload: &[u8], list: Part) -> usize
     ensures { λ r. ⌜ buffer (now (out .exit)) r ≡ put (buffer (now (out .entry)) at) (blocksText (now (payload .entry)) list) ⌝ }
 {
     let start = list.start;

@@ -1,7 +1,10 @@
 -- `felica_calls::call::read_bytes` meets its contract.
 -- Assumes nothing.
 use borrow.Author.Tests.{lt-ltb, le-ltb, eq-eqb, ne-eqb, not-true, not-false}
-use mathlib.Core.Path.{sym, ap, _∙_}
+use native.Mathlib.Omega.{arith}
+use Prim.Native.Nat.{_%_}
+use mathlib.Core.Path.{_≡_, sym, ap, _∙_}
+use lib.ListN.{length}
 use Rattle.felica_calls.specs.Call.{decoded, readBytes}
 use Rattle.felica_calls.proofs.Reading.{decoded-front}
 use borrow.Author.Needs.{needs}
@@ -28,17 +31,19 @@ returns-3 c = rw (ne-eqb _ _ (c .before .before .before .before .if1 .left), sym
 
 returns-4 : tie.Need-returns-4
 unfolding readBytes
-returns-4 c = rw (ne-eqb _ _ (c .before .before .before .before .before .if1 .left), sym (c .before .before .before .before .is-dash .ensures) ∙ c .before .before .before .if2 .left, sym (c .before .before .all-digits .ensures) ∙ not-false _ (c .before .if3 .left), eq-eqb _ _ (c .if4 .taken))
+returns-4 c = let odd : length (c .before .before .before .before .before .before .before .before .args .field .now) % 2 ≡ 1 = omega arith in
+    rw (ne-eqb _ _ (c .before .before .before .before .before .if1 .left), sym (c .before .before .before .before .is-dash .ensures) ∙ c .before .before .before .if2 .left, sym (c .before .before .all-digits .ensures) ∙ not-false _ (c .before .if3 .left), eq-eqb _ _ odd)
 
 returns-5 : tie.Need-returns-5
 unfolding readBytes
-returns-5 c = rw (
-  ne-eqb _ _ (c .before .before .before .before .before .before .if1 .left),
-  sym (c .before .before .before .before .before .is-dash .ensures) ∙ c .before .before .before .before .if2 .left,
-  sym (c .before .before .before .all-digits .ensures) ∙ not-false _ (c .before .before .if3 .left),
-  ne-eqb _ _ (c .before .if4 .left),
-  lt-ltb _ _ (c .if5 .taken),
-)
+returns-5 c = let even : (length (c .before .before .before .before .before .before .before .before .before .args .field .now) % 2 ≡ 1 → ⊥) = c .before .if4 .left in
+    rw (
+      ne-eqb _ _ (c .before .before .before .before .before .before .if1 .left),
+      sym (c .before .before .before .before .before .is-dash .ensures) ∙ c .before .before .before .before .if2 .left,
+      sym (c .before .before .before .all-digits .ensures) ∙ not-false _ (c .before .before .if3 .left),
+      ne-eqb _ _ even,
+      lt-ltb _ _ (c .if5 .taken),
+    )
 
 decode-requires : tie.Need-decode-requires
 decode-requires c κs = search needs
@@ -48,13 +53,15 @@ same-length c = search needs
 
 returns-6 : tie.Need-returns-6
 unfolding readBytes
-returns-6 c = rw (
-  ne-eqb _ _ (c .before .before .before .before .before .before .before .before .before .before .if1 .left),
-  sym (c .before .before .before .before .before .before .before .before .before .is-dash .ensures) ∙ c .before .before .before .before .before .before .before .before .if2 .left,
-  sym (c .before .before .before .before .before .before .before .all-digits .ensures) ∙ not-false _ (c .before .before .before .before .before .before .if3 .left),
-  ne-eqb _ _ (c .before .before .before .before .before .if4 .left),
-  le-ltb _ _ (c .before .before .before .before .if5 .left),
-) (ap (decoded _) (decoded-front _ _ (c .before .before .before .before .if5 .left) (c .before .before .decode .ensures)))
+returns-6 c = let even : (length (c .before .before .before .before .before .before .before .before .before .before .before .before .before .args .field .now) % 2 ≡ 1 → ⊥) = c .before .before .before .before .before .if4 .left in
+    rw (
+      ne-eqb _ _ (c .before .before .before .before .before .before .before .before .before .before .if1 .left),
+      sym (c .before .before .before .before .before .before .before .before .before .is-dash .ensures) ∙ c .before .before .before .before .before .before .before .before .if2 .left,
+      sym (c .before .before .before .before .before .before .before .all-digits .ensures) ∙ not-false _ (c .before .before .before .before .before .before .if3 .left),
+      ne-eqb _ _ even,
+      le-ltb _ _ (c .before .before .before .before .if5 .left),
+    )
+    (ap (decoded _) (decoded-front _ _ (c .before .before .before .before .if5 .left) (c .before .before .decode .ensures)))
 
 pub read-bytes-spec : {M : Type 1} → statement M
 read-bytes-spec =

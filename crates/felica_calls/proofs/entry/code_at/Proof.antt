@@ -1,9 +1,9 @@
--- `felica_calls::element::code_at` meets its contract.
+-- `felica_calls::entry::code_at` meets its contract.
 -- Assumes nothing.
 use Rattle.felica_calls.proofs.Entries.{code-none, code-cut, code-whole}
 use borrow.Author.Needs.{needs}
-use Rattle.felica_calls.proofs.element.code_at.Statement.{statement}
-use Rattle.felica_calls.proofs.element.code_at.Tie as tie
+use Rattle.felica_calls.proofs.entry.code_at.Statement.{statement}
+use Rattle.felica_calls.proofs.entry.code_at.Tie as tie
 
 returns : tie.Need-returns
 returns c = code-none _ _ (c .if1 .taken)

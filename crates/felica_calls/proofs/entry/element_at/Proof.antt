@@ -1,9 +1,9 @@
--- `felica_calls::element::element_at` meets its contract.
+-- `felica_calls::entry::element_at` meets its contract.
 -- Assumes nothing.
 use Rattle.felica_calls.proofs.Entries.{element-none, long-cut, long-whole, short-cut, short-whole}
 use borrow.Author.Needs.{needs}
-use Rattle.felica_calls.proofs.element.element_at.Statement.{statement}
-use Rattle.felica_calls.proofs.element.element_at.Tie as tie
+use Rattle.felica_calls.proofs.entry.element_at.Statement.{statement}
+use Rattle.felica_calls.proofs.entry.element_at.Tie as tie
 
 returns : tie.Need-returns
 returns c = element-none _ _ (c .if1 .taken)

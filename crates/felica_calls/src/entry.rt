@@ -10,12 +10,12 @@ use felica_command::types::BlockNumber;
 use felica_format::error;
 
 // An entry with the place behind it, or the ground on which the payload has none there.
-pub enum CodeRead {
+pub(crate) enum CodeRead {
     Code(u16, usize),
     Refused(u8),
 }
 
-pub enum ElementRead {
+pub(crate) enum ElementRead {
     Element(BlockListElement, usize),
     Refused(u8),
 }
@@ -26,7 +26,7 @@ fn word_of(low: u8, high: u8) -> u16
     (low as u16) + 256 * (high as u16)
 }
 
-pub fn code_at(payload: &[u8], at: usize) -> CodeRead
+pub(crate) fn code_at(payload: &[u8], at: usize) -> CodeRead
     ensures { λ r. ⌜ readCode (drop at (now (payload .entry))) ≡ codeRead (now (payload .entry)) r ⌝ }
 {
     if payload.len() <= at {
@@ -39,7 +39,7 @@ pub fn code_at(payload: &[u8], at: usize) -> CodeRead
 }
 
 // TODO(cursor): use Cursor::take_element
-pub fn element_at(payload: &[u8], at: usize) -> ElementRead
+pub(crate) fn element_at(payload: &[u8], at: usize) -> ElementRead
     ensures { λ r. ⌜ readElement (drop at (now (payload .entry))) ≡ elementRead (now (payload .entry)) r ⌝ }
 {
     if payload.len() <= at {
