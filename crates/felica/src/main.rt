@@ -1,4 +1,6 @@
 // Answers calls: reads them on standard input, a line each, and writes a line for each to standard output.
+ghost use Prim.Native.Nat.{_≤_};
+ghost use lib.ListN.{length};
 use felica_calls::answer::put_answer;
 use felica_calls::call::Call;
 use felica_calls::call::read_call;
@@ -9,22 +11,32 @@ use felica_calls::put::put_byte;
 use felica_parse::parse_frame;
 use felica_parse::parse_payload;
 use felica_parse::parse_secure_payload;
+use libc::STDIN_FILENO;
+use libc::STDOUT_FILENO;
 
-const STDIN: i32 = 0;
+// Bytes of the longest call.
+const MAX_CALL_BYTES: usize = 16384;
 
-const STDOUT: i32 = 1;
-
-// Room for the longest answer: two digits for each byte of the longest call, and the names of the fields.
+// Room for the longest answer and its line feed: a package of that many bytes in digits, and the fields before it. Blocks and codes
+// come to less.
 const ANSWER_ROOM: usize = 33024;
 
-// What is held of the input, how much of the output waits to be written, and whether a write has failed.
+// How much of the output waits to be written, and whether a write has failed.
+struct Output {
+    waiting: usize,
+    failed: bool,
+}
+
+// The same, with how much is held of the input.
 struct State {
     held: usize,
     waiting: usize,
     failed: bool,
 }
 
-fn answer_frame(frame: &[u8], out: &mut [u8], at: usize) -> usize {
+fn answer_frame(frame: &[u8], out: &mut [u8], at: usize) -> usize
+    ensures { λ r. ⌜ (at ≤ length (now (out .entry)) → r ≤ length (now (out .exit))) ⌝ }
+{
     let parsed = parse_frame(frame);
     if frame.len() == 0 {
         return put_answer(out, at, frame, parsed);
@@ -32,67 +44,106 @@ fn answer_frame(frame: &[u8], out: &mut [u8], at: usize) -> usize {
     put_answer(out, at, &frame[1..], parsed)
 }
 
-fn answer_call(line: &[u8], bytes: &mut [u8], out: &mut [u8], at: usize) -> usize {
+fn answer_payload(payload: &[u8], out: &mut [u8], at: usize) -> usize
+    ensures { λ r. ⌜ (at ≤ length (now (out .entry)) → r ≤ length (now (out .exit))) ⌝ }
+{
+    put_answer(out, at, payload, parse_payload(payload))
+}
+
+fn answer_secure(code: u8, payload: &[u8], out: &mut [u8], at: usize) -> usize
+    ensures { λ r. ⌜ (at ≤ length (now (out .entry)) → r ≤ length (now (out .exit))) ⌝ }
+{
+    put_answer(out, at, payload, parse_secure_payload(code, payload))
+}
+
+// An empty line is answered too, so that there is a line for each line.
+fn answer_call(line: &[u8], bytes: &mut [u8], out: &mut [u8], at: usize) -> usize
+    ensures { λ r. ⌜ (at ≤ length (now (out .entry)) → r ≤ length (now (out .exit))) ⌝ }
+{
     let call = read_call(line, bytes);
     match call {
         Call::Frame(count) => answer_frame(&bytes[..count], out, at),
-        Call::Payload(count) => {
-            let payload = &bytes[..count];
-            put_answer(out, at, payload, parse_payload(payload))
-        }
-        Call::Secure(code, count) => {
-            let payload = &bytes[..count];
-            put_answer(out, at, payload, parse_secure_payload(code, payload))
-        }
+        Call::Payload(count) => answer_payload(&bytes[..count], out, at),
+        Call::Secure(code, count) => answer_secure(code, &bytes[..count], out, at),
         Call::Wrong(fault) => put_fault(out, at, fault),
     }
 }
 
-fn answer_line(line: &[u8], bytes: &mut [u8], out: &mut [u8], at: usize) -> usize {
+fn answer_line(line: &[u8], bytes: &mut [u8], out: &mut [u8], at: usize) -> usize
+    ensures { λ r. ⌜ (at ≤ length (now (out .entry)) → r ≤ length (now (out .exit))) ⌝ }
+{
     let next = answer_call(line, bytes, out, at);
     put_byte(out, next, b'\n')
 }
 
-// Answers the whole lines of `input`, and what is held then is the rest. The output is written out where the next answer might not fit.
-fn answer_lines(input: &[u8], bytes: &mut [u8], out: &mut [u8], waiting: usize) -> State {
+// Writes the output where an answer might not fit behind what waits.
+fn make_room(out: &[u8], waiting: usize) -> Output
+    requires { ⌜ waiting ≤ length (now out) ⌝ }
+    ensures { λ r. ⌜ r .waiting ≤ length (now (out .entry)) ⌝ }
+{
+    if ANSWER_ROOM <= out.len() - waiting {
+        return Output {
+            waiting: waiting,
+            failed: false,
+        };
+    }
+    let written = io::write_all(STDOUT_FILENO, &out[..waiting]);
+    Output {
+        waiting: 0,
+        failed: !written,
+    }
+}
+
+// Answers the whole lines of `input`; what is held then is the rest of it.
+fn answer_lines(input: &[u8], bytes: &mut [u8], out: &mut [u8], waiting: usize) -> State
+    requires { ⌜ waiting ≤ length (now out) ⌝ }
+    ensures { λ r. ⌜ (r .held ≤ length (now (input .entry))) × (r .waiting ≤ length (now (out .exit))) ⌝ }
+{
     let mut from = 0;
     let mut next = waiting;
     while from < input.len() {
         let rest = &input[from..];
         let end = find(rest, b'\n');
-        if end == rest.len() {
-            break;
+        if rest.len() <= end {
+            return State {
+                held: rest.len(),
+                waiting: next,
+                failed: false,
+            };
         }
-        next = answer_line(&rest[..end], bytes, out, next);
+        let output = make_room(out, next);
+        if output.failed {
+            return State {
+                held: 0,
+                waiting: 0,
+                failed: true,
+            };
+        }
+        next = answer_line(&rest[..end], bytes, out, output.waiting);
         from = from + end + 1;
-        if out.len() - next < ANSWER_ROOM {
-            if !io::write_all(STDOUT, &out[..next]) {
-                return State {
-                    held: 0,
-                    waiting: 0,
-                    failed: true,
-                };
-            }
-            next = 0;
-        }
     }
     State {
-        held: input.len() - from,
+        held: 0,
         waiting: next,
         failed: false,
     }
 }
 
 // Reads once behind the `held` bytes at the start of `input`, and answers how many are held then.
-fn read_more(input: &mut [u8], held: usize) -> usize {
+fn read_more(input: &mut [u8], held: usize) -> usize
+    requires { ⌜ held ≤ length (now input) ⌝ }
+    ensures { λ r. ⌜ (held ≤ r) × (r ≤ length (now (input .exit))) ⌝ }
+{
     let part = &mut input[held..];
-    let got = libc::read(STDIN, part);
+    let got = libc::read(STDIN_FILENO, part);
     let count = io::count(got, part);
     held + count
 }
 
 // Moves the bytes of `input` from `from` to `end` to its start.
-fn shift(input: &mut [u8], from: usize, end: usize) {
+fn shift(input: &mut [u8], from: usize, end: usize)
+    requires { ⌜ (from ≤ end) × (end ≤ length (now input)) ⌝ }
+{
     let mut i = from;
     let mut to = 0;
     while i < end {
@@ -102,19 +153,22 @@ fn shift(input: &mut [u8], from: usize, end: usize) {
     }
 }
 
-// Passes over the rest of a line, and answers how many bytes behind it are held.
-fn skip_line(input: &mut [u8]) -> usize {
+// Passes over the rest of a line, and answers how many bytes behind it are held. A proved loop has to end, and nothing says that the
+// input does: here and in `feed` the turns are counted down.
+fn skip_line(input: &mut [u8]) -> usize
+    ensures { λ r. ⌜ r ≤ length (now (input .exit)) ⌝ }
+{
     let mut turns = u64::MAX;
     while 0 < turns {
         let more = read_more(input, 0);
+        if more == 0 {
+            return 0;
+        }
         let end = find(&input[..more], b'\n');
         if end < more {
             let from = end + 1;
             shift(input, from, more);
             return more - from;
-        }
-        if more == 0 {
-            return 0;
         }
         turns -= 1;
     }
@@ -128,29 +182,30 @@ fn answer_held(
     bytes: &mut [u8],
     out: &mut [u8],
     waiting: usize,
-) -> State {
+) -> State
+    requires { ⌜ (held ≤ length (now input)) × (waiting ≤ length (now out)) ⌝ }
+    ensures { λ r. ⌜ (r .held ≤ length (now (input .exit))) × (r .waiting ≤ length (now (out .exit))) ⌝ }
+{
     let state = answer_lines(&input[..held], bytes, out, waiting);
-    if state.failed {
+    let rest = state.held;
+    if rest < input.len() {
+        shift(input, held - rest, held);
         return state;
     }
-    let rest = state.held;
-    let next = state.waiting;
-    if rest == input.len() {
-        let behind = put_fault(out, next, Fault::LineTooLong);
-        let line_end = put_byte(out, behind, b'\n');
-        return State {
-            held: skip_line(input),
-            waiting: line_end,
-            failed: false,
-        };
+    let output = make_room(out, state.waiting);
+    let behind = put_fault(out, output.waiting, Fault::LineTooLong);
+    let next = put_byte(out, behind, b'\n');
+    State {
+        held: skip_line(input),
+        waiting: next,
+        failed: output.failed,
     }
-    shift(input, held - rest, held);
-    state
 }
 
-// Reads the input to its end, and answers every line that ends in a line feed. A proved loop has to end, and nothing says that the input
-// does: the turns are counted down.
-fn feed(input: &mut [u8], bytes: &mut [u8], out: &mut [u8]) -> State {
+// Reads the input to its end, and answers every line that ends in a line feed. What is held then is the last line, which has none.
+fn feed(input: &mut [u8], bytes: &mut [u8], out: &mut [u8]) -> State
+    ensures { λ r. ⌜ (r .held ≤ length (now (input .exit))) × (r .waiting ≤ length (now (out .exit))) ⌝ }
+{
     let mut held = 0;
     let mut waiting = 0;
     let mut turns = u64::MAX;
@@ -174,27 +229,28 @@ fn feed(input: &mut [u8], bytes: &mut [u8], out: &mut [u8]) -> State {
     }
 }
 
-// A last line without a line feed is a call too.
-fn answer_last(line: &[u8], bytes: &mut [u8], out: &mut [u8], waiting: usize) -> usize {
-    if line.len() == 0 {
-        return waiting;
-    }
-    answer_line(line, bytes, out, waiting)
-}
-
 fn run(input: &mut [u8], bytes: &mut [u8], out: &mut [u8]) {
     let state = feed(input, bytes, out);
+    let held = state.held;
+    let waiting = state.waiting;
     if state.failed {
         return;
     }
-    let held = state.held;
-    let next = answer_last(&input[..held], bytes, out, state.waiting);
-    io::write_all(STDOUT, &out[..next]);
+    if held == 0 {
+        io::write_all(STDOUT_FILENO, &out[..waiting]);
+        return;
+    }
+    let output = make_room(out, waiting);
+    if output.failed {
+        return;
+    }
+    let end = answer_line(&input[..held], bytes, out, output.waiting);
+    io::write_all(STDOUT_FILENO, &out[..end]);
 }
 
 fn main() {
     let mut input = io::large_buffer();
-    let mut bytes = [0u8; 16384];
+    let mut bytes = [0u8; MAX_CALL_BYTES];
     let mut out = io::large_buffer();
     run(&mut input, &mut bytes, &mut out);
 }

@@ -97,3 +97,6 @@ kept b (v ∷ vs) =
       within = λ k. rest .within (first .within k);
       behind = λ n k. rest .behind n k ∙ first .behind n (omega (arith, rest .onward));
     }
+
+pub put-within : (l : List ℕ) (at : ℕ) (vs : List ℕ) {m : List ℕ} {n : ℕ} → buffer m n ≡ put (buffer l at) vs → at ≤ length l → n ≤ length m
+put-within l at vs e h = rw (ap (λ b. b .bytes) e, ap (λ b. b .next) e) (kept (buffer l at) vs .within h)

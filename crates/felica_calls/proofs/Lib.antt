@@ -4,3 +4,4 @@ pub mod Before
 pub mod Entries
 pub mod Rows
 pub mod Reading
+pub mod Counts

@@ -139,3 +139,10 @@ callOf Unknown s buffer = called (Wrong UnknownCall) buffer
 unfoldable pub readCall : List ℕ → List ℕ → Called
 readCall line buffer =
     cond (eqb (length line) 0) (called (Wrong EmptyLine) buffer) (callOf (kindOf (fieldOf line)) (behindField line) buffer)
+
+-- the bytes of a call
+abbrev pub countOf : Call → ℕ
+countOf (Frame n) = n
+countOf (Payload n) = n
+countOf (Secure c n) = n
+countOf (Wrong fault) = 0
