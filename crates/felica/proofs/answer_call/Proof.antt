@@ -1,0 +1,122 @@
+-- `felica::answer_call` stays within the output, and the bytes of the call within their buffer.
+-- Assumes nothing.
+use mathlib.Core.Path.{sym}
+use lib.Seq.{length-take-le}
+use Rattle.felica_calls.proofs.Laws.{put-within}
+use Rattle.felica_calls.proofs.Counts.{count-within}
+use borrow.Author.Needs.{needs}
+use Rattle.felica.proofs.answer_call.Statement.{statement}
+use Rattle.felica.proofs.answer_call.Tie as tie
+
+read-call-requires : tie.Need-read-call-requires
+read-call-requires c κs = search needs
+
+enum-known-call : tie.Need-enum-known-call
+enum-known-call c = search needs
+
+slice-reshare-prefix-answer-frame : tie.Need-slice-reshare-prefix-answer-frame
+slice-reshare-prefix-answer-frame c = rw (c .before .call .given .1) at (count-within _ _ (c .before .before .before .before .before .read-call .ensures))
+
+slice-aggregate-answer-frame : tie.Need-slice-aggregate-answer-frame
+slice-aggregate-answer-frame c = sym (length-take-le _ _ (rw (c .before .before .call .given .1) at (count-within _ _ (c .before .before .before .before .before .before .read-call .ensures))))
+
+answer-frame-requires : tie.Need-answer-frame-requires
+answer-frame-requires c κs = search needs
+
+enum-known-call-2 : tie.Need-enum-known-call-2
+enum-known-call-2 c = search needs
+
+slice-reshare-prefix-answer-payload : tie.Need-slice-reshare-prefix-answer-payload
+slice-reshare-prefix-answer-payload c = rw (c .before .call2 .given .1) at (count-within _ _ (c .before .before .before .before .before .read-call .ensures))
+
+slice-aggregate-answer-payload : tie.Need-slice-aggregate-answer-payload
+slice-aggregate-answer-payload c = sym (length-take-le _ _ (rw (c .before .before .call2 .given .1) at (count-within _ _ (c .before .before .before .before .before .before .read-call .ensures))))
+
+answer-payload-requires : tie.Need-answer-payload-requires
+answer-payload-requires c κs = search needs
+
+enum-known-call-3 : tie.Need-enum-known-call-3
+enum-known-call-3 c = search needs
+
+slice-reshare-prefix-answer-secure : tie.Need-slice-reshare-prefix-answer-secure
+slice-reshare-prefix-answer-secure c = rw (c .before .call3 .given .1) at (count-within _ _ (c .before .before .before .before .before .read-call .ensures))
+
+slice-aggregate-answer-secure : tie.Need-slice-aggregate-answer-secure
+slice-aggregate-answer-secure c = sym (length-take-le _ _ (rw (c .before .before .call3 .given .1) at (count-within _ _ (c .before .before .before .before .before .before .read-call .ensures))))
+
+answer-secure-requires : tie.Need-answer-secure-requires
+answer-secure-requires c κs = search needs
+
+enum-known-call-4 : tie.Need-enum-known-call-4
+enum-known-call-4 c = search needs
+
+put-fault-requires : tie.Need-put-fault-requires
+put-fault-requires c κs = search needs
+
+same-length : tie.Need-same-length
+same-length c = search needs
+
+same-length-2 : tie.Need-same-length-2
+same-length-2 c = search needs
+
+returns : tie.Need-returns
+returns c = search needs
+
+same-length-3 : tie.Need-same-length-3
+same-length-3 c = search needs
+
+same-length-4 : tie.Need-same-length-4
+same-length-4 c = search needs
+
+returns-2 : tie.Need-returns-2
+returns-2 c = search needs
+
+same-length-5 : tie.Need-same-length-5
+same-length-5 c = search needs
+
+same-length-6 : tie.Need-same-length-6
+same-length-6 c = search needs
+
+returns-3 : tie.Need-returns-3
+returns-3 c = search needs
+
+same-length-7 : tie.Need-same-length-7
+same-length-7 c = search needs
+
+same-length-8 : tie.Need-same-length-8
+same-length-8 c = search needs
+
+returns-4 : tie.Need-returns-4
+returns-4 c = put-within _ _ _ (c .before .before .put-fault .ensures)
+
+pub answer-call-spec : {M : Type 1} → statement M
+answer-call-spec =
+    tie.close
+    (tie.spec
+    read-call-requires
+    enum-known-call
+    slice-reshare-prefix-answer-frame
+    slice-aggregate-answer-frame
+    answer-frame-requires
+    enum-known-call-2
+    slice-reshare-prefix-answer-payload
+    slice-aggregate-answer-payload
+    answer-payload-requires
+    enum-known-call-3
+    slice-reshare-prefix-answer-secure
+    slice-aggregate-answer-secure
+    answer-secure-requires
+    enum-known-call-4
+    put-fault-requires
+    same-length
+    same-length-2
+    returns
+    same-length-3
+    same-length-4
+    returns-2
+    same-length-5
+    same-length-6
+    returns-3
+    same-length-7
+    same-length-8
+    returns-4)

@@ -1,0 +1,22 @@
+-- `felica::answer_payload` stays within the output.
+-- Assumes nothing.
+use Rattle.felica_calls.proofs.Laws.{put-within}
+use borrow.Author.Needs.{needs}
+use Rattle.felica.proofs.answer_payload.Statement.{statement}
+use Rattle.felica.proofs.answer_payload.Tie as tie
+
+parse-payload-requires : tie.Need-parse-payload-requires
+parse-payload-requires c κs = search needs
+
+put-answer-requires : tie.Need-put-answer-requires
+put-answer-requires c κs = search needs
+
+same-length : tie.Need-same-length
+same-length c = search needs
+
+returns : tie.Need-returns
+returns c = put-within _ _ _ (c .before .before .put-answer .ensures)
+
+pub answer-payload-spec : {M : Type 1} → statement M
+answer-payload-spec =
+    tie.close (tie.spec parse-payload-requires put-answer-requires same-length returns)
