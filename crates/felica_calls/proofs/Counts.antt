@@ -2,7 +2,7 @@
 -- Assumes nothing.
 use mathlib.Core.Path.{_≡_, refl, ap}
 use mathlib.Core.Bool.{Bool, true, false, not, cond}
-use mathlib.Core.List.{List, _++_}
+use mathlib.Core.List.{List}
 use Prim.Native.Nat.{ℕ, _/_, _%_, _≤_, zero-le}
 use native.Mathlib.Omega.{arith}
 use lib.Dec.{ltb, eqb}
@@ -10,7 +10,6 @@ use lib.ListN.{length, drop, length-append, length-drop}
 use borrow.Author.Tests.{ltb-false}
 use Rattle.felica_calls.specs.Call.{allDigits, bytesOf, fieldOf, behindField, Decoded, decoded, Called, called, isDash, readBytes, readLast, lastIs}
 use Rattle.felica_calls.specs.Call.{readCommandCode, securePayload, readSecureCall, kindOf, callOf, readCall, countOf}
-use Rattle.felica_calls.specs.declared.fault.Fault.the-variants.{EmptyLine, MissingField, ExtraField, NoDigit as NotADigit, OddDigits, TooManyBytes}
 use Rattle.felica_calls.specs.declared.call.Kind.{Kind}
 use Rattle.felica_calls.specs.declared.call.Kind.the-variants.{Frame as OfFrame, Payload as OfPayload, Secure as OfSecure, Unknown}
 use Rattle.felica_calls.specs.declared.call.Bytes.{Bytes}
@@ -18,7 +17,7 @@ use Rattle.felica_calls.specs.declared.call.Bytes.the-variants.{Count, W
 use Rattle.felica_calls.specs.declared.call.Code.{Code}
 use Rattle.felica_calls.specs.declared.call.Code.the-variants.{Code as TheCode, Wrong as WrongCode}
 use Rattle.felica_calls.specs.declared.call.Call.{Call}
-use Rattle.felica_calls.specs.declared.call.Call.the-variants.{Frame, Payload, Secure, Wrong}
+use Rattle.felica_calls.specs.declared.call.Call.the-variants.{Frame, Payload, Secure}
 use Rattle.felica_calls.proofs.Reading.{length-bytes}
 
 abbrev countIs : Bytes → ℕ

@@ -2,7 +2,7 @@
 -- Assumes nothing.
 use Prim.Native.Nat.{ℕ, zero, suc, _%_}
 use mathlib.Core.List.{List, [], _∷_, _++_}
-use lib.ListN.{take, drop}
+use lib.ListN.{drop}
 use Rattle.felica_format.specs.Basic.{Step, taken, refuse, wordOf}
 use Rattle.felica_format.specs.Command.{Element}
 use Rattle.felica_format.specs.Read.{readElement}

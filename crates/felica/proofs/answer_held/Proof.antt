@@ -1,9 +1,8 @@
 -- `felica::answer_held` stays within the input and the output.
 -- Assumes nothing.
 use native.Mathlib.Omega.{arith}
-use Prim.Native.Nat.{_≤_}
 use mathlib.Core.Path.{sym}
-use lib.ListN.{length, length-take}
+use lib.ListN.{length-take}
 use lib.Seq.{length-take-le}
 use Rattle.felica_calls.proofs.Laws.{put-within}
 use borrow.Author.Needs.{needs}

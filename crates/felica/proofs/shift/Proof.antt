@@ -1,9 +1,9 @@
 -- `felica::shift` keeps the length: the place written to stays behind the one read.
 -- Assumes nothing.
-use lib.ListN.{length, drop, length-set, length-drop}
+use lib.ListN.{length, length-set}
 use native.Mathlib.Omega.{arith}
-use Prim.Native.Nat.{ℕ, _+_, _-_, _≤_, _<_}
-use mathlib.Core.Path.{_≡_, refl, sym, ap, _∙_}
+use Prim.Native.Nat.{_+_, _-_, _≤_}
+use mathlib.Core.Path.{_≡_, refl}
 use Rattle.felica.proofs.shift.Statement.{statement}
 use Rattle.felica.proofs.shift.Tie as tie
 

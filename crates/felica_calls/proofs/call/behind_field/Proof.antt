@@ -1,7 +1,6 @@
 -- `felica_calls::call::behind_field` meets its contract.
 -- Assumes nothing.
 use native.Mathlib.Omega.{arith}
-use mathlib.Core.Path.{sym}
 use Rattle.felica_calls.proofs.Reading.{take-rest, before-within}
 use borrow.Author.Needs.{needs}
 use Rattle.felica_calls.proofs.call.behind_field.Statement.{statement}

@@ -2,9 +2,8 @@
 -- Assumes nothing.
 use borrow.Author.Needs.{needs}
 use native.Mathlib.Omega.{arith}
-use Prim.Native.Nat.{_*_, _-_, _/_, _≤_}
+use Prim.Native.Nat.{_*_, _-_, _≤_}
 use mathlib.Core.Path.{_≡_, refl, sym, ap, _∙_}
-use mathlib.Core.List.{[], _∷_}
 use lib.ListN.{length, drop}
 use Rattle.felica_calls.specs.Put.{buffer, put}
 use Rattle.felica_calls.specs.Call.{bytesOf}

@@ -2,8 +2,7 @@
 -- Assumes nothing.
 use native.Mathlib.Omega.{arith}
 use Prim.Native.Nat.{_+_, _-_, _≤_}
-use mathlib.Core.Path.{_≡_, refl, ap}
-use mathlib.Core.List.{[]}
+use mathlib.Core.Path.{_≡_, ap}
 use lib.ListN.{length, drop, drop-of-length-le}
 use Rattle.felica_calls.specs.Text.{before}
 use Rattle.felica_calls.proofs.Before.{before-here, before-later}

@@ -1,9 +1,7 @@
 -- `felica_calls::list::put_more_codes` meets its contract.
 -- Assumes nothing.
 use native.Mathlib.Omega.{arith}
-use Prim.Native.Nat.{_-_, _≤_}
 use mathlib.Core.Path.{_≡_, refl, sym, ap, _∙_}
-use mathlib.Core.List.{[], _∷_}
 use lib.ListN.{length, drop}
 use Rattle.felica_calls.specs.Text.{wordText}
 use Rattle.felica_calls.specs.Put.{buffer, put}
@@ -11,7 +9,6 @@ use Rattle.felica_calls.specs.Entries.{readCode, codeRead, moreText}
 use Rattle.felica_calls.proofs.Laws.{put-then, put-rest, put-none}
 use Rattle.felica_calls.proofs.Entries.{more-next, more-end, more-none}
 use borrow.Author.Needs.{needs}
-use Rattle.felica_calls.specs.Entries.{readCode, moreText}
 use Rattle.felica_calls.proofs.list.put_more_codes.Statement.{statement}
 use Rattle.felica_calls.proofs.list.put_more_codes.Tie as tie
 

@@ -1,8 +1,5 @@
 -- `felica_calls::put::put_hex_byte` meets its contract: two digits.
 -- Assumes nothing.
-use mathlib.Core.Path.{ap, _∙_}
-use mathlib.Core.List.{[], _∷_}
-use Rattle.felica_calls.specs.Put.{put}
 use Rattle.felica_calls.proofs.Laws.{put-then}
 use borrow.Author.Needs.{needs}
 use Rattle.felica_calls.proofs.put.put_hex_byte.Statement.{statement}
