@@ -6,11 +6,11 @@ use felica_calls::call::Call;
 use felica_calls::call::read_call;
 use felica_calls::fault::Fault;
 use felica_calls::fault::put_fault;
-use felica_calls::find::find;
-use felica_calls::put::put_byte;
 use felica_parse::parse_frame;
 use felica_parse::parse_payload;
 use felica_parse::parse_secure_payload;
+use felica_text::find::find;
+use felica_text::put::put_byte;
 use libc::STDIN_FILENO;
 use libc::STDOUT_FILENO;
 

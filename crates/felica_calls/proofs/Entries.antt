@@ -9,9 +9,9 @@ use lib.ListN.{length, getD, drop, length-drop, drop-of-length-le}
 use borrow.Author.Tests.{lt-ltb, le-ltb}
 use Rattle.felica_format.specs.Basic.{Step, taken, refuse, wordOf}
 use Rattle.felica_format.specs.Read.{elementOf, readShort, readLong, readElement}
-use Rattle.felica_calls.specs.Text.{text}
+use Rattle.felica_text.specs.Text.{text}
 use Rattle.felica_calls.specs.Entries.{readCode, moreText, listText}
-use Rattle.felica_calls.proofs.Laws.{drop-next}
+use Rattle.felica_text.proofs.Laws.{drop-next}
 
 long-none : (head : ℕ) (r : List ℕ) → length r < 2 → readLong head r ≡ refuse 16
 unfolding readLong

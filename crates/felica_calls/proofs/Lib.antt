@@ -1,6 +1,3 @@
-pub mod Laws
-pub mod Text
-pub mod Before
 pub mod Entries
 pub mod Rows
 pub mod Reading

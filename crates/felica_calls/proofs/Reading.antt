@@ -9,7 +9,7 @@ use lib.Dec.{ltb, leb, eqb}
 use lib.ListN.{length, getD, take, drop, length-take, length-drop}
 use Rattle.felica_format.specs.Basic.{_and_}
 use Rattle.felica_format.proofs.Tests.{tests}
-use Rattle.felica_calls.specs.Text.{digitOf, before}
+use Rattle.felica_text.specs.Text.{digitOf, before}
 use Rattle.felica_calls.specs.Call.{valueOf, allDigits, byteOf, bytesOf, isDash, fieldOf, behindField}
 use Rattle.felica_calls.specs.Call.{Decoded, decoded, readBytes, readLast, lastIs}
 use Rattle.felica_calls.specs.Call.{readCommandCode, securePayload, readSecureCall, kindOf, callOf, readCall}
@@ -20,12 +20,12 @@ use Rattle.felica_calls.specs.declared.fault.Fault.the-variants.{Missing
 use Rattle.felica_calls.specs.declared.call.Call.{Call}
 use Rattle.felica_calls.specs.declared.call.Bytes.{Bytes}
 use Rattle.felica_calls.specs.declared.call.Bytes.the-variants.{Wrong as WrongBytes}
-use Rattle.felica_calls.specs.Put.{buffer, put}
+use Rattle.felica_text.specs.Put.{buffer, put}
 use lib.Seq.{take-all}
 use borrow.Author.Tests.{lt-ltb, le-ltb, ne-eqb}
-use Rattle.felica_calls.specs.declared.hex.Digit.the-variants.{Value, NoDigit}
+use Rattle.felica_text.specs.declared.hex.Digit.the-variants.{Value, NoDigit}
 use Rattle.felica_calls.specs.declared.call.Kind.the-variants.{Unknown}
-use Rattle.felica_calls.proofs.Laws.{drop-next, put-front}
+use Rattle.felica_text.proofs.Laws.{drop-next, put-front}
 
 -- a digit's value is below 16
 small : (d : ℕ) (a b c e : Bool) → ltb d 48 ≡ a → leb d 57 ≡ b → ltb d 65 ≡ c → leb d 70 ≡ e

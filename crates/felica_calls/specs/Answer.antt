@@ -25,7 +25,7 @@ use Rattle.felica_command.specs.declared.command.Refusal.the-variants.{Number, 
 use Rattle.felica_command.specs.declared.command.Answer.{Answer}
 use Rattle.felica_command.specs.declared.command.Answer.the-variants.{Command as AnswerCommand, Refused as AnswerRefused}
 use Rattle.felica_command.specs.declared.command.Parsed.{Parsed}
-use Rattle.felica_calls.specs.Text.{text, byteText, wordText, bytesText, decimalText}
+use Rattle.felica_text.specs.Text.{text, byteText, wordText, bytesText, decimalText}
 use Rattle.felica_calls.specs.Entries.{codesText, blocksText}
 
 -- a field: its name and its value

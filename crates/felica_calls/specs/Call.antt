@@ -7,9 +7,9 @@ use mathlib.Core.List.{List, [], _∷_, _++_}
 use lib.ListN.{length, drop}
 use lib.Dec.{ltb, eqb}
 use Rattle.felica_format.specs.Basic.{_and_}
-use Rattle.felica_calls.specs.Text.{text, digitOf, before}
-use Rattle.felica_calls.specs.declared.hex.Digit.{Digit}
-use Rattle.felica_calls.specs.declared.hex.Digit.the-variants.{Value, NoDigit}
+use Rattle.felica_text.specs.Text.{text, digitOf, before}
+use Rattle.felica_text.specs.declared.hex.Digit.{Digit}
+use Rattle.felica_text.specs.declared.hex.Digit.the-variants.{Value, NoDigit}
 use Rattle.felica_calls.specs.declared.fault.Fault.{Fault}
 use Rattle.felica_calls.specs.declared.fault.Fault.the-variants.{EmptyLine, LineTooLong, UnknownCall, MissingField, ExtraField}
 use Rattle.felica_calls.specs.declared.fault.Fault.the-variants.{CodeSize, NoDigit as NotADigit, OddDigits, TooManyBytes}

@@ -6,13 +6,10 @@ use lib.ListN.{drop}
 use Rattle.felica_format.specs.Basic.{Step, taken, refuse, wordOf}
 use Rattle.felica_format.specs.Command.{Element}
 use Rattle.felica_format.specs.Read.{readElement}
-use Rattle.felica_command.specs.Types.{elementIs}
 use Rattle.felica_command.specs.declared.command.Part.{Part}
-use Rattle.felica_calls.specs.Text.{text, digitText, wordText}
+use Rattle.felica_text.specs.Text.{text, digitText, wordText}
 use Rattle.felica_calls.specs.declared.entry.CodeRead.{CodeRead}
 use Rattle.felica_calls.specs.declared.entry.CodeRead.the-variants.{Code, Refused as CodeRefused}
-use Rattle.felica_calls.specs.declared.entry.ElementRead.{ElementRead}
-use Rattle.felica_calls.specs.declared.entry.ElementRead.the-variants.{Element as AnElement, Refused as ElementRefused}
 
 -- one code of a list; 13: code list cut off
 unfoldable pub readCode : List ℕ → Step ℕ
@@ -20,14 +17,10 @@ readCode [] = refuse 13
 readCode (low ∷ []) = refuse 13
 readCode (low ∷ high ∷ s) = taken (wordOf low high) s
 
--- what the answer of a reader of one entry says of the bytes s
+-- what the answer of a reader of one code says of the bytes s
 abbrev pub codeRead : List ℕ → CodeRead → Step ℕ
 codeRead s (Code code next) = taken code (drop next s)
 codeRead s (CodeRefused n) = refuse n
-
-abbrev pub elementRead : List ℕ → ElementRead → Step Element
-elementRead s (AnElement e next) = taken (elementIs e) (drop next s)
-elementRead s (ElementRefused n) = refuse n
 
 -- "`blocks` are triples number/place/mode, four, one and one digits"
 abbrev pub elementText : Element → List ℕ

@@ -1,5 +1,3 @@
-pub mod Text
-pub mod Put
 pub mod Entries
 pub mod Answer
 pub mod Call

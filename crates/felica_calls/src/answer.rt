@@ -1,18 +1,18 @@
 // The line that answers a call: `OK`, the code and the fields of the command, or `NO`, the number of the refusal and the code.
 ghost use mathlib.Core.Path.{_≡_};
 ghost use Rattle.felica_command.specs.Meaning.{fieldsOf};
-ghost use Rattle.felica_calls.specs.Put.{buffer, put};
+ghost use Rattle.felica_text.specs.Put.{buffer, put};
 ghost use Rattle.felica_calls.specs.Answer.{refusalText, commandText, lineOf};
 use crate::fields::put_fields;
-use crate::put::put_byte;
-use crate::put::put_bytes;
-use crate::put::put_decimal;
-use crate::put::put_hex_byte;
 use felica_command::command::Answer;
 use felica_command::command::FelicaStandardCommand as Command;
 use felica_command::command::Parsed;
 use felica_command::command::Refusal;
 use felica_format::constants;
+use felica_text::put::put_byte;
+use felica_text::put::put_bytes;
+use felica_text::put::put_decimal;
+use felica_text::put::put_hex_byte;
 
 // The payload is the one that the places in `parsed` count from: of a frame, the bytes behind its length byte.
 pub fn put_answer(out: &mut [u8], at: usize, payload: &[u8], parsed: Parsed) -> usize

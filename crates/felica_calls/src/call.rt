@@ -1,15 +1,15 @@
 // A line as a call: a letter, then fields, each behind one space. The bytes of the last field go to a lent buffer.
 ghost use mathlib.Core.Path.{_≡_};
 ghost use lib.ListN.{drop};
-ghost use Rattle.felica_calls.specs.Text.{digitOf};
-ghost use Rattle.felica_calls.specs.Put.{buffer, put};
+ghost use Rattle.felica_text.specs.Text.{digitOf};
+ghost use Rattle.felica_text.specs.Put.{buffer, put};
 ghost use Rattle.felica_calls.specs.Call.{called, decoded, readCall, kindOf, lastIs, readLast, readSecureCall, readCommandCode};
 ghost use Rattle.felica_calls.specs.Call.{fieldOf, behindField, readBytes, isDash, bytesOf, allDigits, byteOf, valueOf};
 use crate::fault::Fault;
-use crate::find::find;
-use crate::hex::Digit;
-use crate::hex::digit_value;
-use crate::put::put_byte;
+use felica_text::find::find;
+use felica_text::hex::Digit;
+use felica_text::hex::digit_value;
+use felica_text::put::put_byte;
 
 // The call with the number of its bytes, or what is wrong with it.
 pub enum Call {

@@ -2,18 +2,18 @@
 ghost use mathlib.Core.Path.{_≡_};
 ghost use mathlib.Core.List.{_++_};
 ghost use Rattle.felica_command.specs.Meaning.{bytesAt};
-ghost use Rattle.felica_calls.specs.Text.{byteText, wordText, bytesText};
-ghost use Rattle.felica_calls.specs.Put.{buffer, put};
+ghost use Rattle.felica_text.specs.Text.{byteText, wordText, bytesText};
+ghost use Rattle.felica_text.specs.Put.{buffer, put};
 ghost use Rattle.felica_calls.specs.Entries.{codesText};
 ghost use Rattle.felica_calls.specs.Answer.{wordField, idmField, firstField, blocksField, packageField};
 ghost use Rattle.felica_calls.specs.Answer.{challenge8, challenge16, issueFields};
 use crate::list::put_blocks;
 use crate::list::put_codes;
-use crate::put::put_bytes;
-use crate::put::put_hex;
-use crate::put::put_hex_byte;
-use crate::put::put_hex_word;
 use felica_command::command::Part;
+use felica_text::put::put_bytes;
+use felica_text::put::put_hex;
+use felica_text::put::put_hex_byte;
+use felica_text::put::put_hex_word;
 
 pub(crate) fn put_idm(out: &mut [u8], at: usize, idm: [u8; 8]) -> usize
     ensures { λ r. ⌜ buffer (now (out .exit)) r ≡ put (buffer (now (out .entry)) at) (idmField idm) ⌝ }

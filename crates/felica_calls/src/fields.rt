@@ -3,7 +3,7 @@ ghost use mathlib.Core.Path.{_≡_};
 ghost use mathlib.Core.List.{List, _++_};
 ghost use Prim.Native.Nat.{ℕ};
 ghost use Rattle.felica_command.specs.Types.{nodePropertyByte, encryptionByte, packetByte};
-ghost use Rattle.felica_calls.specs.Put.{buffer, put};
+ghost use Rattle.felica_text.specs.Put.{buffer, put};
 ghost use Rattle.felica_calls.specs.Answer.{byteField, wordField, firstField, secondField, blocksField, dataField};
 ghost use Rattle.felica_calls.specs.Answer.{rowOf, rowText, idmText};
 use crate::field::put_block_list;

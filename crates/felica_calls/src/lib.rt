@@ -5,7 +5,4 @@ mod entry;
 pub mod fault;
 mod field;
 mod fields;
-pub mod find;
-pub mod hex;
 mod list;
-pub mod put;

@@ -3,18 +3,18 @@ ghost use mathlib.Core.Path.{_≡_};
 ghost use lib.ListN.{drop};
 ghost use Rattle.felica_format.specs.Read.{readElement};
 ghost use Rattle.felica_command.specs.Types.{elementIs};
-ghost use Rattle.felica_calls.specs.Text.{wordText};
-ghost use Rattle.felica_calls.specs.Put.{buffer, put};
+ghost use Rattle.felica_text.specs.Text.{wordText};
+ghost use Rattle.felica_text.specs.Put.{buffer, put};
 ghost use Rattle.felica_calls.specs.Entries.{readCode, elementText, moreText, codesText, blocksText};
 use crate::entry::CodeRead;
-use crate::entry::ElementRead;
 use crate::entry::code_at;
-use crate::entry::element_at;
-use crate::hex::hex_digit;
-use crate::put::put_byte;
-use crate::put::put_hex_word;
 use felica_command::command::Part;
 use felica_command::types::BlockListElement;
+use felica_cursor::answers::ElementTaken;
+use felica_cursor::cursor::Cursor;
+use felica_text::hex::hex_digit;
+use felica_text::put::put_byte;
+use felica_text::put::put_hex_word;
 
 pub(crate) fn put_codes(out: &mut [u8], at: usize, payload: &[u8], list: Part) -> usize
     ensures { λ r. ⌜ buffer (now (out .exit)) r ≡ put (buffer (now (out .entry)) at) (codesText (now (payload .entry)) list) ⌝ }
@@ -59,12 +59,13 @@ pub(crate) fn put_blocks(out: &mut [u8], at: usize, payload: &[u8], list: Part) 
     if count == 0 {
         return put_byte(out, at, b'-');
     }
-    let first = element_at(payload, start);
-    let ElementRead::Element(element, place) = first else {
+    let cursor = Cursor { at: start };
+    let first = cursor.take_element(payload);
+    let ElementTaken::Element(element, behind) = first else {
         return put_byte(out, at, b'-');
     };
     let next = put_block(out, at, element);
-    put_more_blocks(out, next, payload, place, count - 1)
+    put_more_blocks(out, next, payload, behind.at, count - 1)
 }
 
 fn put_more_blocks(out: &mut [u8], at: usize, payload: &[u8], start: usize, count: usize) -> usize
@@ -74,13 +75,14 @@ fn put_more_blocks(out: &mut [u8], at: usize, payload: &[u8], start: usize, coun
     let mut place = start;
     let mut left = count;
     while 0 < left {
-        let taken = element_at(payload, place);
-        let ElementRead::Element(element, behind) = taken else {
+        let cursor = Cursor { at: place };
+        let taken = cursor.take_element(payload);
+        let ElementTaken::Element(element, behind) = taken else {
             return next;
         };
         next = put_byte(out, next, b',');
         next = put_block(out, next, element);
-        place = behind;
+        place = behind.at;
         left -= 1;
     }
     next

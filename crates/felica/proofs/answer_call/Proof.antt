@@ -2,7 +2,7 @@
 -- Assumes nothing.
 use mathlib.Core.Path.{sym}
 use lib.Seq.{length-take-le}
-use Rattle.felica_calls.proofs.Laws.{put-within}
+use Rattle.felica_text.proofs.Laws.{put-within}
 use Rattle.felica_calls.proofs.Counts.{count-within}
 use borrow.Author.Needs.{needs}
 use Rattle.felica.proofs.answer_call.Statement.{statement}

@@ -1,6 +1,6 @@
 -- `felica::answer_line` stays within the output.
 -- Assumes nothing.
-use Rattle.felica_calls.proofs.Laws.{put-within}
+use Rattle.felica_text.proofs.Laws.{put-within}
 use borrow.Author.Needs.{needs}
 use Rattle.felica.proofs.answer_line.Statement.{statement}
 use Rattle.felica.proofs.answer_line.Tie as tie

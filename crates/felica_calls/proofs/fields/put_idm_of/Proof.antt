@@ -1,7 +1,7 @@
 -- `felica_calls::fields::put_idm_of` meets its contract.
 -- Assumes nothing.
 use mathlib.Core.Path.{sym, ap, _∙_}
-use Rattle.felica_calls.specs.Put.{put}
+use Rattle.felica_text.specs.Put.{put}
 use Rattle.felica_calls.specs.Answer.{idmText}
 use Rattle.felica_calls.proofs.Rows.{empty}
 use borrow.Author.Needs.{needs}

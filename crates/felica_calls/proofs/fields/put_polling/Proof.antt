@@ -1,6 +1,6 @@
 -- `felica_calls::fields::put_polling` meets its contract: field after field.
 -- Assumes nothing.
-use Rattle.felica_calls.proofs.Laws.{put-then}
+use Rattle.felica_text.proofs.Laws.{put-then}
 use borrow.Author.Needs.{needs}
 use Rattle.felica_calls.proofs.fields.put_polling.Statement.{statement}
 use Rattle.felica_calls.proofs.fields.put_polling.Tie as tie

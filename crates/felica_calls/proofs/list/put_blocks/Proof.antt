@@ -2,11 +2,12 @@
 -- Assumes nothing.
 use mathlib.Core.Path.{sym, ap, _∙_}
 use Rattle.felica_format.specs.Read.{readElement}
-use Rattle.felica_calls.specs.Put.{put}
-use Rattle.felica_calls.specs.Entries.{elementText, elementRead}
-use Rattle.felica_calls.proofs.Laws.{put-then}
+use Rattle.felica_text.specs.Put.{put}
+use Rattle.felica_calls.specs.Entries.{elementText}
+use Rattle.felica_text.proofs.Laws.{put-then}
 use Rattle.felica_calls.proofs.Entries.{list-next, list-end, list-none}
 use borrow.Author.Needs.{needs}
+use Rattle.felica_cursor.specs.Steps.{elementTaken}
 use Rattle.felica_calls.proofs.list.put_blocks.Statement.{statement}
 use Rattle.felica_calls.proofs.list.put_blocks.Tie as tie
 
@@ -19,8 +20,8 @@ same-length c = search needs
 returns : tie.Need-returns
 returns c = c .before .before .put-byte .ensures ∙ ap (put _) (sym (list-none readElement elementText _ _ (c .before .before .before .before .if1 .taken)))
 
-element-at-requires : tie.Need-element-at-requires
-element-at-requires c κs = search needs
+take-element-requires : tie.Need-take-element-requires
+take-element-requires c κs = search needs
 
 enum-known-first : tie.Need-enum-known-first
 enum-known-first c = search needs
@@ -35,7 +36,7 @@ same-length-2 : tie.Need-same-length-2
 same-length-2 c = search needs
 
 returns-2 : tie.Need-returns-2
-returns-2 c = c .before .before .put-byte2 .ensures ∙ ap (put _) (sym (list-end readElement elementText _ _ (c .before .before .before .before .before .before .element-at .ensures ∙ ap (elementRead _) (c .before .before .before .before .enum-told .given .1))))
+returns-2 c = c .before .before .put-byte2 .ensures ∙ ap (put _) (sym (list-end readElement elementText _ _ (c .before .before .before .before .before .before .take-element .ensures .0 ∙ ap (elementTaken _) (c .before .before .before .before .enum-told .given .1))))
 
 put-block-requires : tie.Need-put-block-requires
 put-block-requires c κs = search needs
@@ -50,7 +51,7 @@ same-length-3 : tie.Need-same-length-3
 same-length-3 c = search needs
 
 returns-3 : tie.Need-returns-3
-returns-3 c = let e = list-next readElement elementText _ _ (c .before .before .before .before .before .before .before .before .before .before .before .before .if1 .left) (c .before .before .before .before .before .before .before .before .before .before .before .element-at .ensures ∙ ap (elementRead _) (c .before .before .before .before .before .before .before .before .before .first .given .1)) in
+returns-3 c = let e = list-next readElement elementText _ _ (c .before .before .before .before .before .before .before .before .before .before .before .before .if1 .left) (c .before .before .before .before .before .before .before .before .before .before .before .take-element .ensures .0 ∙ ap (elementTaken _) (c .before .before .before .before .before .before .before .before .before .first .given .1)) in
     put-then _ _ _ (c .before .before .before .before .before .before .put-block .ensures) (c .before .before .put-more-blocks .ensures) ∙ ap (put _) (sym e)
 
 pub put-blocks-spec : {M : Type 1} → statement M
@@ -60,7 +61,7 @@ put-blocks-spec =
     put-byte-requires
     same-length
     returns
-    element-at-requires
+    take-element-requires
     enum-known-first
     enum-told
     put-byte-requires-2

@@ -1,10 +1,10 @@
 -- `felica_calls::list::put_codes` meets its contract.
 -- Assumes nothing.
 use mathlib.Core.Path.{sym, ap, _∙_}
-use Rattle.felica_calls.specs.Text.{wordText}
-use Rattle.felica_calls.specs.Put.{put}
+use Rattle.felica_text.specs.Text.{wordText}
+use Rattle.felica_text.specs.Put.{put}
 use Rattle.felica_calls.specs.Entries.{readCode, codeRead}
-use Rattle.felica_calls.proofs.Laws.{put-then}
+use Rattle.felica_text.proofs.Laws.{put-then}
 use Rattle.felica_calls.proofs.Entries.{list-next, list-end, list-none}
 use borrow.Author.Needs.{needs}
 use Rattle.felica_calls.proofs.list.put_codes.Statement.{statement}

@@ -5,10 +5,11 @@ use native.Mathlib.Omega.{arith}
 use mathlib.Core.Path.{_≡_, refl, sym, ap, _∙_}
 use lib.ListN.{length, drop}
 use Rattle.felica_format.specs.Read.{readElement}
-use Rattle.felica_calls.specs.Put.{buffer, put}
-use Rattle.felica_calls.specs.Entries.{elementText, elementRead, moreText}
-use Rattle.felica_calls.proofs.Laws.{put-then, put-rest, put-none}
+use Rattle.felica_text.specs.Put.{buffer, put}
+use Rattle.felica_calls.specs.Entries.{elementText, moreText}
+use Rattle.felica_text.proofs.Laws.{put-then, put-rest, put-none}
 use Rattle.felica_calls.proofs.Entries.{more-next, more-end, more-none}
+use Rattle.felica_cursor.specs.Steps.{elementTaken}
 use Rattle.felica_calls.proofs.list.put_more_blocks.Statement.{statement}
 use Rattle.felica_calls.proofs.list.put_more_blocks.Tie as tie
 
@@ -21,8 +22,8 @@ abbrev μ-loop : tie.MeasureT-loop
 loop-holds : tie.Need-loop-holds Inv-loop μ-loop
 loop-holds c = (refl, refl)
 
-element-at-requires : tie.Need-element-at-requires Inv-loop μ-loop
-element-at-requires c κs = search needs
+take-element-requires : tie.Need-take-element-requires Inv-loop μ-loop
+take-element-requires c κs = search needs
 
 enum-known-taken : tie.Need-enum-known-taken Inv-loop μ-loop
 enum-known-taken c = search needs
@@ -34,7 +35,7 @@ same-length : tie.Need-same-length Inv-loop μ-loop
 same-length c = c .before .before .before .before .loop .inv .0
 
 returns : tie.Need-returns Inv-loop μ-loop
-returns c = put-none _ _ (more-end readElement elementText _ _ (c .before .before .element-at .ensures ∙ ap (elementRead _) (c .enum-told .given .1))) (c .before .before .before .before .loop .inv .1)
+returns c = put-none _ _ (more-end readElement elementText _ _ (c .before .before .take-element .ensures .0 ∙ ap (elementTaken _) (c .enum-told .given .1))) (c .before .before .before .before .loop .inv .1)
 
 put-byte-requires : tie.Need-put-byte-requires Inv-loop μ-loop
 put-byte-requires c κs = search needs
@@ -52,7 +53,7 @@ loop-again : tie.Need-loop-again Inv-loop μ-loop
 loop-again c = let l = c .before .before .before .before .before .before .before .before .before .before .before .before .before .loop in
     let w = c .before .before .before .before .before .before .put-byte in
     let x = c .before .before .put-block in
-    let e = more-next readElement elementText _ _ (c .before .before .before .before .before .before .before .before .before .before .before .before .loop-test .taken) (c .before .before .before .before .before .before .before .before .before .before .before .element-at .ensures ∙ ap (elementRead _) (c .before .before .before .before .before .before .before .before .before .taken .given .1)) in
+    let e = more-next readElement elementText _ _ (c .before .before .before .before .before .before .before .before .before .before .before .before .loop-test .taken) (c .before .before .before .before .before .before .before .before .before .before .before .take-element .ensures .0 ∙ ap (elementTaken _) (c .before .before .before .before .before .before .before .before .before .taken .given .1)) in
     (x .kept .0 ∙ w .kept .0 ∙ l .inv .0, put-rest _ _ _ (ap (put _) (sym e) ∙ l .inv .1) (put-then _ _ _ (w .ensures) (x .ensures)))
 
 same-length-2 : tie.Need-same-length-2 Inv-loop μ-loop
@@ -68,7 +69,7 @@ put-more-blocks-spec =
     Inv-loop
     μ-loop
     loop-holds
-    element-at-requires
+    take-element-requires
     enum-known-taken
     enum-told
     same-length

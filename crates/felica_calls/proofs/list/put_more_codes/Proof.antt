@@ -3,10 +3,10 @@
 use native.Mathlib.Omega.{arith}
 use mathlib.Core.Path.{_≡_, refl, sym, ap, _∙_}
 use lib.ListN.{length, drop}
-use Rattle.felica_calls.specs.Text.{wordText}
-use Rattle.felica_calls.specs.Put.{buffer, put}
+use Rattle.felica_text.specs.Text.{wordText}
+use Rattle.felica_text.specs.Put.{buffer, put}
 use Rattle.felica_calls.specs.Entries.{readCode, codeRead, moreText}
-use Rattle.felica_calls.proofs.Laws.{put-then, put-rest, put-none}
+use Rattle.felica_text.proofs.Laws.{put-then, put-rest, put-none}
 use Rattle.felica_calls.proofs.Entries.{more-next, more-end, more-none}
 use borrow.Author.Needs.{needs}
 use Rattle.felica_calls.proofs.list.put_more_codes.Statement.{statement}

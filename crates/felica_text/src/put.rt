@@ -1,0 +1,79 @@
+// Text put into a lent buffer at a place. Each function answers the place behind; where the buffer is full the rest is left out.
+ghost use mathlib.Core.Path.{_≡_};
+ghost use mathlib.Core.List.{[], _∷_};
+ghost use Rattle.felica_text.specs.Text.{byteText, wordText, digitsText, bytesText, decimalText};
+ghost use Rattle.felica_text.specs.Put.{buffer, put};
+use crate::hex::hex_digit;
+
+pub fn put_byte(out: &mut [u8], at: usize, byte: u8) -> usize
+    ensures { λ r. ⌜ buffer (now (out .exit)) r ≡ put (buffer (now (out .entry)) at) (byte ∷ []) ⌝ }
+{
+    if at < out.len() {
+        out[at] = byte;
+        at + 1
+    } else {
+        at
+    }
+}
+
+pub fn put_bytes(out: &mut [u8], at: usize, bytes: &[u8]) -> usize
+    ensures { λ r. ⌜ buffer (now (out .exit)) r ≡ put (buffer (now (out .entry)) at) (now (bytes .entry)) ⌝ }
+{
+    let mut next = at;
+    let mut i = 0;
+    while i < bytes.len() {
+        next = put_byte(out, next, bytes[i]);
+        i += 1;
+    }
+    next
+}
+
+// A byte in two digits.
+pub fn put_hex_byte(out: &mut [u8], at: usize, byte: u8) -> usize
+    ensures { λ r. ⌜ buffer (now (out .exit)) r ≡ put (buffer (now (out .entry)) at) (byteText byte) ⌝ }
+{
+    let next = put_byte(out, at, hex_digit(byte / 16));
+    put_byte(out, next, hex_digit(byte))
+}
+
+// A two-byte number in four digits.
+pub fn put_hex_word(out: &mut [u8], at: usize, word: u16) -> usize
+    ensures { λ r. ⌜ buffer (now (out .exit)) r ≡ put (buffer (now (out .entry)) at) (wordText word) ⌝ }
+{
+    let next = put_hex_byte(out, at, (word / 256) as u8);
+    put_hex_byte(out, next, (word % 256) as u8)
+}
+
+// Bytes in two digits each, and `-` for none.
+pub fn put_hex(out: &mut [u8], at: usize, bytes: &[u8]) -> usize
+    ensures { λ r. ⌜ buffer (now (out .exit)) r ≡ put (buffer (now (out .entry)) at) (bytesText (now (bytes .entry))) ⌝ }
+{
+    if bytes.len() == 0 {
+        put_byte(out, at, b'-')
+    } else {
+        put_hex_bytes(out, at, bytes)
+    }
+}
+
+fn put_hex_bytes(out: &mut [u8], at: usize, bytes: &[u8]) -> usize
+    ensures { λ r. ⌜ buffer (now (out .exit)) r ≡ put (buffer (now (out .entry)) at) (digitsText (now (bytes .entry))) ⌝ }
+{
+    let mut next = at;
+    let mut i = 0;
+    while i < bytes.len() {
+        next = put_hex_byte(out, next, bytes[i]);
+        i += 1;
+    }
+    next
+}
+
+pub fn put_decimal(out: &mut [u8], at: usize, number: usize) -> usize
+    ensures { λ r. ⌜ buffer (now (out .exit)) r ≡ put (buffer (now (out .entry)) at) (decimalText number) ⌝ }
+{
+    if number < 10 {
+        put_byte(out, at, b'0' + number as u8)
+    } else {
+        let next = put_decimal(out, at, number / 10);
+        put_byte(out, next, b'0' + (number % 10) as u8)
+    }
+}
