@@ -1,13 +1,14 @@
 // The commands of command/mod.rs and the result of a parse.
 ghost use mathlib.Core.Path.{_≡_};
 ghost use mathlib.Core.Option.{some, none};
-ghost use Rattle.felica_command.specs.Meaning.{refusedBy, refusal};
+ghost use Rattle.felica_command.specs.Meaning.{fieldsOf, refusedBy, refusal};
 use crate::types::ContainerProperty;
 use crate::types::NodeCode;
 use crate::types::NodePropertyType;
 use crate::types::ServiceCode;
 use crate::types::SetParameterEncryptionType;
 use crate::types::SetParameterPacketType;
+use felica_format::constants as codes;
 
 // A list, the data or the package, named as a part of the payload: the place of its first byte, counted from the payload's first, and
 // how many entries it has (bytes, of data and package).
@@ -109,6 +110,50 @@ pub enum FelicaStandardCommand {
         package: Part,
     },
     ChangeSystemBlock,
+}
+
+impl FelicaStandardCommand {
+    pub fn command_code(self) -> u8
+        ensures { λ r. ⌜ r ≡ fieldsOf self .code ⌝ }
+    {
+        match self {
+            Self::Polling { .. } => codes::POLLING_COMMAND_CODE,
+            Self::RequestService { .. } => codes::REQUEST_SERVICE_COMMAND_CODE,
+            Self::RequestResponse => codes::REQUEST_RESPONSE_COMMAND_CODE,
+            Self::ReadWithoutEncryption { .. } => codes::READ_WITHOUT_ENCRYPTION_COMMAND_CODE,
+            Self::WriteWithoutEncryption { .. } => codes::WRITE_WITHOUT_ENCRYPTION_COMMAND_CODE,
+            Self::SearchServiceCode { .. } => codes::SEARCH_SERVICE_CODE_COMMAND_CODE,
+            Self::RequestSystemCode => codes::REQUEST_SYSTEM_CODE_COMMAND_CODE,
+            Self::RequestBlockInformation { .. } => codes::REQUEST_BLOCK_INFORMATION_COMMAND_CODE,
+            Self::Authentication1 { .. } => codes::AUTHENTICATION1_COMMAND_CODE,
+            Self::Authentication2 => codes::AUTHENTICATION2_COMMAND_CODE,
+            Self::Read { .. } => codes::READ_COMMAND_CODE,
+            Self::Write { .. } => codes::WRITE_COMMAND_CODE,
+            Self::ReadV2 { .. } => codes::READ_V2_COMMAND_CODE,
+            Self::WriteV2 { .. } => codes::WRITE_V2_COMMAND_CODE,
+            Self::RequestCodeList { .. } => codes::REQUEST_CODE_LIST_COMMAND_CODE,
+            Self::RequestBlockInformationEx { .. } =>
+                codes::REQUEST_BLOCK_INFORMATION_EX_COMMAND_CODE,
+            Self::SetParameter { .. } => codes::SET_PARAMETER_COMMAND_CODE,
+            Self::GetContainerIssueInformation =>
+                codes::GET_CONTAINER_ISSUE_INFORMATION_COMMAND_CODE,
+            Self::GetAreaInformation { .. } => codes::GET_AREA_INFORMATION_COMMAND_CODE,
+            Self::GetNodeProperty { .. } => codes::GET_NODE_PROPERTY_COMMAND_CODE,
+            Self::GetContainerProperty { .. } => codes::GET_CONTAINER_PROPERTY_COMMAND_CODE,
+            Self::RequestServiceV2 { .. } => codes::REQUEST_SERVICE_V2_COMMAND_CODE,
+            Self::GetSystemStatus => codes::GET_SYSTEM_STATUS_COMMAND_CODE,
+            Self::RequestProductInformation => codes::REQUEST_PRODUCT_INFORMATION_COMMAND_CODE,
+            Self::RequestSpecificationVersion => codes::REQUEST_SPECIFICATION_VERSION_COMMAND_CODE,
+            Self::ResetMode => codes::RESET_MODE_COMMAND_CODE,
+            Self::Authentication1V2 { .. } => codes::AUTHENTICATION1_V2_COMMAND_CODE,
+            Self::Authentication2V2 => codes::AUTHENTICATION2_V2_COMMAND_CODE,
+            Self::GetContainerId => codes::GET_CONTAINER_ID_COMMAND_CODE,
+            Self::RegisterIssueId { .. } => codes::REGISTER_ISSUE_ID_COMMAND_CODE,
+            Self::RegisterArea { .. } => codes::REGISTER_AREA_COMMAND_CODE,
+            Self::RegisterService { .. } => codes::REGISTER_SERVICE_COMMAND_CODE,
+            Self::ChangeSystemBlock => codes::CHANGE_SYSTEM_BLOCK_COMMAND_CODE,
+        }
+    }
 }
 
 // The number of document 01's table and, from 4 up, the command code.

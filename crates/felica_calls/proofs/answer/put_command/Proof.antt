@@ -11,8 +11,8 @@ slice-aggregate-put-bytes c = search needs
 put-bytes-requires : tie.Need-put-bytes-requires
 put-bytes-requires c κs = search needs
 
-code-of-requires : tie.Need-code-of-requires
-code-of-requires c κs = search needs
+command-code-requires : tie.Need-command-code-requires
+command-code-requires c κs = search needs
 
 put-hex-byte-requires : tie.Need-put-hex-byte-requires
 put-hex-byte-requires c κs = search needs
@@ -24,7 +24,7 @@ same-length : tie.Need-same-length
 same-length c = search needs
 
 returns : tie.Need-returns
-returns c = put-then _ _ _ (c .before .before .before .before .before .before .before .before .before .before .before .put-bytes .ensures) (put-then _ _ _ (rw (c .before .before .before .before .before .before .before .code-of .ensures) at (c .before .before .before .before .before .before .put-hex-byte .ensures)) (c .before .before .put-fields .ensures))
+returns c = put-then _ _ _ (c .before .before .before .before .before .before .before .before .before .before .before .put-bytes .ensures) (put-then _ _ _ (rw (c .before .before .before .before .before .before .before .command-code .ensures) at (c .before .before .before .before .before .before .put-hex-byte .ensures)) (c .before .before .put-fields .ensures))
 
 pub put-command-spec : {M : Type 1} → statement M
 put-command-spec =
@@ -32,7 +32,7 @@ put-command-spec =
     (tie.spec
     slice-aggregate-put-bytes
     put-bytes-requires
-    code-of-requires
+    command-code-requires
     put-hex-byte-requires
     put-fields-requires
     same-length

@@ -1,8 +1,8 @@
--- `felica_calls::answer::code_of` meets its contract: a code for each command.
+-- `FelicaStandardCommand::command_code` meets its contract: a code for each command.
 -- Assumes nothing.
 use borrow.Author.Needs.{needs}
-use Rattle.felica_calls.proofs.answer.code_of.Statement.{statement}
-use Rattle.felica_calls.proofs.answer.code_of.Tie as tie
+use Rattle.felica_command.proofs.command.FelicaStandardCommand.command_code.Statement.{statement}
+use Rattle.felica_command.proofs.command.FelicaStandardCommand.command_code.Tie as tie
 
 enum-told : tie.Need-enum-told
 enum-told c = search needs
@@ -202,8 +202,8 @@ returns-32 c = rw (c .enum-told32 .given .1)
 returns-33 : tie.Need-returns-33
 returns-33 c = rw (c .enum-told33 .given .1)
 
-pub code-of-spec : {M : Type 1} → statement M
-code-of-spec =
+pub command-code-spec : {M : Type 1} → statement M
+command-code-spec =
     tie.close
     (tie.spec
     enum-told
