@@ -9,7 +9,7 @@ use Rattle.felica_format.specs.Read.{readElement}
 use Rattle.felica_command.specs.declared.command.Part.{Part}
 use Rattle.felica_text.specs.Text.{text, digitText, wordText}
 use Rattle.felica_calls.specs.declared.entry.CodeRead.{CodeRead}
-use Rattle.felica_calls.specs.declared.entry.CodeRead.the-variants.{Code, Refused as CodeRefused}
+use Rattle.felica_calls.specs.declared.entry.CodeRead.the-variants.{Code, None as NoCode}
 
 -- one code of a list; 13: code list cut off
 unfoldable pub readCode : List ℕ → Step ℕ
@@ -20,9 +20,9 @@ readCode (low ∷ high ∷ s) = taken (wordOf low high) s
 -- what the answer of a reader of one code says of the bytes s
 abbrev pub codeRead : List ℕ → CodeRead → Step ℕ
 codeRead s (Code code next) = taken code (drop next s)
-codeRead s (CodeRefused n) = refuse n
+codeRead s NoCode = refuse 13
 
--- "`blocks` are triples number/place/mode, four, one and one digits"
+-- "`blocks` are triples number/place/mode, four, one and one digits"; 47 is the code of `/`
 abbrev pub elementText : Element → List ℕ
 elementText e = wordText (e .number) ++ (47 ∷ digitText (e .place % 16) ∷ 47 ∷ digitText (e .mode % 16) ∷ [])
 
@@ -31,7 +31,7 @@ ifTaken (taken a rest) f other = f a rest
 ifTaken (refuse n) f other = other
 
 module _ {A : Type 0} (read : List ℕ → Step A) (entry : A → List ℕ) where
-  -- the entries behind the first
+  -- the entries behind the first, each behind a comma, whose code is 44
   unfoldable pub moreText : ℕ → List ℕ → List ℕ
   moreText zero s = []
   moreText (suc n) s = ifTaken (read s) (λ a rest. 44 ∷ (entry a ++ moreText n rest)) []

@@ -6,9 +6,8 @@ use mathlib.Core.Path.{_≡_, refl, sym, ap, _∙_}
 use mathlib.Core.Bool.{cond}
 use mathlib.Core.List.{List}
 use lib.Dec.{eqb}
-use Rattle.felica_format.specs.Basic.{zeros}
 use Rattle.felica_format.specs.Command.{Command}
-use Rattle.felica_format.specs.Read.{Answer as Reading, gives, refused}
+use Rattle.felica_format.specs.Read.{gives}
 use Rattle.felica_command.specs.Types.{propertyOf, propertyIndex}
 use Rattle.felica_command.specs.Meaning.{Fields, fieldsOf, commandIs, refusalIs, answerIs, CanonicalAnswer}
 use Rattle.felica_command.specs.Places.{Places, placesIn, answerPlaces, OneAccount}

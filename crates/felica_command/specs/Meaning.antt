@@ -96,6 +96,7 @@ blocks code codes elements d = fields code 0 codes noPart elements d 0 0 0 0 noP
 abbrev pub packed : ℕ → ℕ → Part → Fields
 packed code n p = fields code 0 noPart noPart noPart noPart n 0 0 0 p Property1
 
+-- "the 33 commands, 25 plain and 8 secure": a row for each, with its code and its fields
 abbrev pub fieldsOf : FelicaStandardCommand → Fields
 fieldsOf (Polling system request slots) = fixed 0x00 system 0 request slots
 fieldsOf (RequestService codes) = listed 0x02 0 codes
@@ -146,6 +147,7 @@ abbrev pub answerIs : List ℕ → List ℕ → List ℕ → Answer → Reading
 answerIs s idm challenge (AnswerCommand kind) = gives (commandIs s idm challenge (fieldsOf kind))
 answerIs s idm challenge (AnswerRefused why) = refusalIs why
 
+-- what a result says of the payload s
 abbrev pub meaning : List ℕ → Parsed → Reading
 meaning s r = answerIs s (r .idm) (r .challenge) (r .answer)
 

@@ -127,7 +127,7 @@ Inside s q =
     × (q .blockData .start + q .blockData .count ≤ length s)
     × (q .issuePackage .start + q .issuePackage .count ≤ length s)
 
--- the places that the definitions settle do (proofs/Inside.antt)
+-- The places that the definitions settle lie inside the payload (proofs/Inside.antt).
 abbrev pub PayloadInside : Type 0
 PayloadInside = (s : List ℕ) → Inside s (readPlaces 1 s (readPayload s))
 

@@ -8,16 +8,16 @@ use native.Mathlib.Numerals.{add-one}
 use native.Mathlib.Nat.{zero-add, sub-zero, add-zero, add-suc}
 use native.Mathlib.Omega.{arith}
 use lib.Dec.{ltb, leb}
-use lib.ListN.{length, getD, take, drop, length-drop, drop-of-length-le, set, length-replicate, replicate-append-replicate}
-use lib.Seq.{drop-cons, drop-drop, paste, paste-zero, paste-suc, getD-drop, drop-at}
+use lib.ListN.{length, getD, drop, length-drop, set, length-replicate, replicate-append-replicate}
+use lib.Seq.{drop-cons, drop-drop, paste, paste-suc, getD-drop, drop-at}
 use borrow.Author.Tests.{ltb-false, leb-true, leb-false, lt-ltb, le-ltb, ne-eqb}
 use Rattle.felica_format.specs.Basic.{Step, taken, refuse, bind, refuseIf, isOneOf, zeros, wordOf, wordAt, _and_}
-use Rattle.felica_format.specs.Command.{Element, endFields}
+use Rattle.felica_format.specs.Command.{Element, endFields, noFields}
 use Rattle.felica_format.specs.Layout.{Ending, bare, polling, nothing}
 use Rattle.felica_format.specs.Read.{readElement, readEach, readLong, readShort, readEnding, readValues, sizeOf, zeroAt, timeSlots}
 use Rattle.felica_format.proofs.Steps.{none-taken}
 use Rattle.felica_command.specs.Places.{elementSize, elementsSize}
-use Rattle.felica_cursor.specs.Answers.{asStep, MovesTo, movedWith, noFields}
+use Rattle.felica_cursor.specs.Answers.{asStep, MovesTo, movedWith}
 use Rattle.felica_cursor.specs.Steps.{measured}
 use Rattle.felica_cursor.specs.declared.answers.Moved.{Moved}
 use Rattle.felica_cursor.specs.declared.answers.Moved.the-variants.{On, Refused as MovedRefused}

@@ -11,7 +11,7 @@ use Rattle.felica_format.specs.Basic.{_and_, wordAt, Step, taken, refuse, bind}
 use Rattle.felica_format.specs.Command.{Element}
 use Rattle.felica_format.specs.Read.{wordsOf, readElement, readEach}
 use Rattle.felica_format.proofs.Steps.{bind-taken, taken-value}
-use Rattle.felica_command.specs.Meaning.{valueOr, codesAt, elementsAt}
+use Rattle.felica_command.specs.Meaning.{valueOr}
 use Rattle.felica_command.specs.declared.command.Part.{Part}
 use Rattle.felica_cursor.specs.Entries.{codeEntry, valueOf, elementBehind, elementEntry, CodeOfList, ElementOfList}
 use Rattle.felica_cursor.proofs.Laws.{word-drop}

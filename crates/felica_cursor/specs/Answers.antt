@@ -5,7 +5,7 @@ use Prim.Native.Nat.{ℕ}
 use mathlib.Core.List.{List}
 use lib.ListN.{drop}
 use Rattle.felica_format.specs.Basic.{Step, taken, refuse, zeros}
-use Rattle.felica_format.specs.Command.{Element, EndFields, endFields}
+use Rattle.felica_format.specs.Command.{Element, EndFields, endFields, noFields}
 use Rattle.felica_command.specs.declared.command.Part.{Part}
 use Rattle.felica_command.specs.Types.{elementIs, nodePropertyByte, encryptionByte, packetByte}
 use Rattle.felica_cursor.specs.declared.answers.IdmTaken.{IdmTaken}
@@ -29,6 +29,7 @@ use Rattle.felica_cursor.specs.declared.answers.PollingTaken.the-variant
 use Rattle.felica_cursor.specs.declared.answers.ParameterTaken.{ParameterTaken}
 use Rattle.felica_cursor.specs.declared.answers.ParameterTaken.the-variants.{Types, Refused as ParameterRefused}
 
+-- what was taken and the position behind it, or the ground on which the step refuses
 pub data Walked (A : Type 0) : Type 0 where
   onward : A → ℕ → Walked A
   halted : ℕ → Walked A
@@ -53,12 +54,10 @@ abbrev pub groundOf : {A : Type 0} → Walked A → ℕ
 groundOf (onward v at) = 0
 groundOf (halted n) = n
 
+-- each answer as such a one; `movedWith v` gives a bare move the value v
 abbrev pub movedWith : {A : Type 0} → A → Moved → Walked A
 movedWith v (On c) = onward v (c .at)
 movedWith v (MovedRefused n) = halted n
-
-abbrev pub noFields : EndFields
-noFields = endFields 0 0 0 0 (zeros 16)
 
 abbrev pub idmTaken : IdmTaken → Walked (List ℕ)
 idmTaken r = movedWith (r .idm) (r .step)
@@ -98,6 +97,7 @@ abbrev pub parameterTaken : ParameterTaken → Walked EndFields
 parameterTaken (Types encryption packet c) = onward (endFields 0 0 (encryptionByte encryption) (packetByte packet) (zeros 16)) (c .at)
 parameterTaken (ParameterRefused n) = halted n
 
+-- the ground of each answer
 abbrev pub movedGround : Moved → ℕ
 movedGround r = groundOf (movedWith noFields r)
 

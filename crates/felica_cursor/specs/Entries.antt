@@ -54,7 +54,7 @@ abbrev pub blockFound : BlockAt → Option Element
 blockFound (ElementIs e) = some (elementIs e)
 blockFound NoElement = none
 
--- An entry of a part that lies inside the payload is that entry of the list.
+-- An entry of a list of codes that lies inside the payload, or of a block list that has as many elements as its part says, is that entry of the list.
 abbrev pub CodeOfList : Type 0
 CodeOfList = (s : List ℕ) (p : Part) (i : ℕ) → p .start + 2 * p .count ≤ length s → i < p .count → codeEntry s p i ≡ some (getD (codesAt s p) i 0)
 

@@ -1,11 +1,11 @@
 -- The parts that the list steps name: what stands there, and where it stands.
 -- Assumes nothing.
 use mathlib.Core.Path.{_≡_}
-use Prim.Native.Nat.{ℕ, _+_, _*_, _≤_}
+use Prim.Native.Nat.{ℕ, _+_, _*_}
 use mathlib.Core.List.{List}
 use lib.ListN.{length, getD, drop}
 use lib.Dec.{ltb}
-use Rattle.felica_format.specs.Basic.{Step, taken, refuse, refuseIf, zeros}
+use Rattle.felica_format.specs.Basic.{Step, taken, refuseIf, zeros}
 use Rattle.felica_format.specs.Command.{Element}
 use Rattle.felica_command.specs.declared.command.Part.{Part}
 use Rattle.felica_command.specs.Meaning.{part, codesAt, elementsAt, bytesAt}
@@ -18,11 +18,12 @@ use Rattle.felica_cursor.specs.declared.answers.ChallengeTaken.{Challeng
 use Rattle.felica_cursor.specs.declared.answers.Moved.{Moved}
 use Rattle.felica_cursor.specs.declared.answers.Moved.the-variants.{On, Refused as MovedRefused}
 
+-- a part that was taken, read as what stands there
 abbrev pub reading : {A : Type 0} → (Part → A) → Walked Part → Walked A
 reading f (onward p at) = onward (f p) at
 reading f (halted n) = halted n
 
--- n codes from a place on: two bytes each, all of them there
+-- codes: two bytes each, from a place on
 abbrev pub codesTaken : List ℕ → ListTaken → Step (List ℕ)
 codesTaken s r = asStep s (reading (codesAt s) (listTaken r))
 
@@ -44,6 +45,7 @@ abbrev pub ElementsPlaced : List ℕ → ℕ → ListTaken → Type 0
 ElementsPlaced s start r =
     Holds (λ p next. (p .start ≡ start) × (length (elementsAt s p) ≡ p .count) × (next ≡ start + elementsSize (p .count) (drop start s))) (listTaken r)
 
+-- data: 16 bytes for each block
 abbrev pub dataTaken : List ℕ → ListTaken → Step (List ℕ)
 dataTaken s r = asStep s (reading (bytesAt s) (listTaken r))
 

@@ -8,7 +8,7 @@ ghost use Rattle.felica_format.specs.Basic.{wordOf};
 ghost use Rattle.felica_format.specs.Layout.{_to_, typeByte, anyByte, boundsAt};
 ghost use Rattle.felica_format.specs.Read.{elementOf, readIdm, readSelector, readCount, readWords, readCodes, readElement, readEach, readElements, readData};
 ghost use Rattle.felica_command.specs.Types.{elementIs};
-ghost use Rattle.felica_cursor.specs.Answers.{asStep, Holds, MovesTo, idmTaken, byteTaken, propertyTypeTaken};
+ghost use Rattle.felica_cursor.specs.Answers.{asStep, MovesTo, idmTaken, byteTaken, propertyTypeTaken};
 ghost use Rattle.felica_cursor.specs.Steps.{IdmZero, codesTaken, CodesPlaced, elementTaken, ElementPlaced, elementsTaken};
 ghost use Rattle.felica_cursor.specs.Steps.{ElementsPlaced, dataTaken, DataPlaced};
 use crate::answers::ByteTaken;

@@ -4,6 +4,7 @@
 use Prim.Native.Nat.{ℕ}
 use mathlib.Core.List.{List, [], _∷_, map}
 use lib.ListN.{getD, drop}
+use Rattle.felica_format.specs.Basic.{zeros}
 
 -- The fields of the fixed bytes that end a body, by code:
 --   number      00 system code; 0A service index; 1A parent node code; 24 node code; 2E property; 82 area code; 84 service code
@@ -20,6 +21,10 @@ pub record EndFields : Type 0 where
 
 abbrev pub endFields : ℕ → ℕ → ℕ → ℕ → List ℕ → EndFields
 endFields n i o c b = record { number = n; index = i; option = o; choice = c; challenge = b }
+
+-- where a layout has none of them
+abbrev pub noFields : EndFields
+noFields = endFields 0 0 0 0 (zeros 16)
 
 --   idm            8 bytes
 --   selector       28 property type; 40 operation parameter

@@ -9,7 +9,7 @@ use mathlib.Core.Option.{none, some}
 use lib.ListN.{length, getD}
 use lib.Dec.{ltb}
 use Rattle.felica_format.specs.Basic.{zeros}
-use Rattle.felica_format.specs.Command.{Element, EndFields, endFields, commandOf}
+use Rattle.felica_format.specs.Command.{Element, EndFields, endFields, commandOf, noFields}
 use Rattle.felica_format.specs.Read.{Answer, gives, refused, readFrame, readSecure}
 
 pub record Example : Type 0 where
@@ -50,9 +50,6 @@ starred =
 
 abbrev pub element : ℕ → ℕ → ℕ → Element
 element number place mode = record { number = number; place = place; mode = mode }
-
-abbrev pub noFields : EndFields
-noFields = endFields 0 0 0 0 (zeros 16)
 
 abbrev pub aNumber : ℕ → EndFields
 aNumber n = endFields n 0 0 0 (zeros 16)

@@ -2,7 +2,7 @@
 ghost use mathlib.Core.Path.{_≡_};
 ghost use Rattle.felica_format.specs.Layout.{classOf};
 
-// Plain commands travel as frames; the payload of a secure one is encrypted.
+// Plain commands are sent as frames; the payload of a secure one is encrypted.
 pub enum Class {
     Plain,
     Secure,

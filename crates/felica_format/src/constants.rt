@@ -11,9 +11,6 @@ pub const IDM_LEN: usize = 8;
 // Bytes of a block.
 pub const BLOCK_SIZE: usize = 16;
 
-// Bytes of a frame, its length byte included.
-pub const MAX_PACKET_LEN: usize = 0xFF;
-
 pub const MAX_SERVICE_CODES: u8 = 0x20;
 
 // The same where blocks are read or written without encryption.
@@ -161,7 +158,7 @@ pub const MIN_BLOCK_COUNT: u8 = 1;
 
 pub const MAX_BLOCK_COUNT: u8 = 0xFF;
 
-// A row of the table, and no codes from 25 up. A caller names its row by a literal, so that the table folds away.
+// A row of the table, and no codes from 25 up. A caller names its row by a literal, so that the compiler puts its values in place of the table.
 pub fn bounds_at(row: usize) -> Bounds
     ensures { λ r. ⌜ r ≡ boundsAt row ⌝ }
 {

@@ -11,15 +11,15 @@ use lib.ListN.{length, getD, drop}
 use borrow.Author.Tests.{eq-eqb, ne-eqb}
 use Rattle.felica_format.specs.declared.classes.Class.{Class}
 use Rattle.felica_format.specs.declared.classes.Class.the-variants.{Plain, Secure, Unknown}
-use Rattle.felica_format.specs.Layout.{classOf, has, plainRows, secureRows, layoutOf}
-use Rattle.felica_format.specs.Read.{Answer as Reading, refused, readPayload, readFrame, readSecure, readPlainAs, readSecureAs, readBody, answerOf}
+use Rattle.felica_format.specs.Layout.{classOf, has, plainRows, secureRows}
+use Rattle.felica_format.specs.Read.{Answer as Reading, refused, readPayload, readFrame, readSecure, readPlainAs, readSecureAs}
 use Rattle.felica_command.specs.Meaning.{meaning, Canonical, refusal}
 use Rattle.felica_command.specs.Places.{placesOf, readPlaces, Account, Inside}
 use Rattle.felica_command.proofs.Inside.{none-inside, payload-inside, secure-inside}
 use Rattle.felica_command.specs.declared.command.Parsed.{Parsed}
 use Rattle.felica_parse.specs.Bodies.{BodyRead, CodeListCode, IdmAloneCode, WordCode, ReservedCode, ReadCode, WriteCode, RegisterCode}
 
--- a refusal tells all that is to be told
+-- a refusal meets every clause
 pub refusal-account : (s : List ℕ) (at n : ℕ) (code : Option ℕ) (reading : Reading) (r : Parsed) → r ≡ refusal n code → reading ≡ refused n code
     → Account s at reading r
 refusal-account s at n none reading r e is = rw (e, is) (refl, refl, (refl, refl))

@@ -9,7 +9,7 @@ use mathlib.Core.Option.{some}
 use lib.ListN.{length, drop}
 use borrow.Author.Tests.{le-ltb}
 use Rattle.felica_format.specs.Basic.{Step, taken, refuse, bind, refuseIf, zeros}
-use Rattle.felica_format.specs.Command.{Command, Element, EndFields, endFields, commandOf}
+use Rattle.felica_format.specs.Command.{Command, Element, EndFields, endFields, commandOf, noFields}
 use Rattle.felica_format.specs.Layout.{noSelector, noCodes, bare, nothing, ignoredBytes, aPackage, Layout, layoutOf}
 use Rattle.felica_format.specs.Read.{readIdm, readSelector, readCodes, readElements, readData, readEnding, readValues, readPackage, ifCodes, readBody}
 use Rattle.felica_command.specs.Types.{propertyOf, propertyIndex}
@@ -18,7 +18,7 @@ use Rattle.felica_command.specs.Places.{placesIn, layoutPlaces}
 use Rattle.felica_command.specs.declared.command.Answer.the-variants.{Command as AnswerCommand}
 use Rattle.felica_command.specs.declared.command.FelicaStandardCommand.{FelicaStandardCommand}
 use Rattle.felica_command.specs.declared.command.Parsed.{Parsed}
-use Rattle.felica_cursor.specs.Answers.{asStep, movedWith, noFields, byteTaken, propertyTypeTaken, wordTaken, wordsTaken, pollingTaken, parameterTaken}
+use Rattle.felica_cursor.specs.Answers.{asStep, movedWith, byteTaken, propertyTypeTaken, wordTaken, wordsTaken, pollingTaken, parameterTaken}
 use Rattle.felica_cursor.specs.declared.answers.Moved.{Moved}
 use Rattle.felica_cursor.specs.declared.answers.ByteTaken.{ByteTaken}
 use Rattle.felica_cursor.specs.declared.answers.PropertyTypeTaken.{PropertyTypeTaken}

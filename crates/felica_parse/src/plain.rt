@@ -1,5 +1,4 @@
 // The plain commands. A body begins behind the code byte, at 1.
-ghost use mathlib.Core.Path.{_≡_};
 ghost use Rattle.felica_parse.specs.Bodies.{BodyRead, CodeListCode, IdmAloneCode, WordCode, ReservedCode};
 use crate::kinds::code_list_kind;
 use crate::kinds::idm_alone_kind;

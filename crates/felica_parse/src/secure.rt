@@ -1,5 +1,4 @@
 // The secure commands, by their decrypted payloads: the arms of the Rust's parse_secure_payload. There is no code byte, and a body begins at 0.
-ghost use mathlib.Core.Path.{_≡_};
 ghost use Rattle.felica_parse.specs.Bodies.{BodyRead, ReadCode, WriteCode, RegisterCode};
 use crate::kinds::read_kind;
 use crate::kinds::register_kind;

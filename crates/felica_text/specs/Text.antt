@@ -14,7 +14,7 @@ abbrev pub text : String → List ℕ
 text noText = []
 text (c then s) = code c ∷ text s
 
--- "Hexadecimal in capitals": the digit of a number below 16, and the number of a digit
+-- "Hexadecimal in capitals": the digit of a number below 16, and the number of a digit. 48 to 57 are the codes of 0 to 9, 65 to 70 of A to F.
 abbrev pub digitText : ℕ → ℕ
 digitText n = cond (ltb n 10) (48 + n) (55 + n)
 

@@ -1,17 +1,16 @@
 -- `parse_frame` meets its contract: the length byte is tested, and the rest is a payload.
 -- Assumes nothing.
 use borrow.Author.Needs.{needs}
-use mathlib.Core.Path.{_≡_, sym, subst, _∙_}
+use mathlib.Core.Path.{_≡_, sym, subst}
 use mathlib.Core.List.{List}
 use mathlib.Core.Option.{none}
 use Prim.Native.Nat.{ℕ, _-_}
 use native.Mathlib.Omega.{arith}
 use denote.Ref.{now}
-use lib.ListN.{length, getD, take, drop, length-drop}
+use lib.ListN.{length, take, drop, length-drop}
 use lib.Seq.{take-all}
 use Rattle.felica_format.specs.Read.{Answer, readPayload, readFrame}
 use Rattle.felica_parse.proofs.Entry.{refusal-settled, Settled, frame-empty, frame-length, frame-payload}
-use borrow.Author.Needs.{needs}
 use Rattle.felica_parse.proofs.parse_frame.Statement.{statement}
 use Rattle.felica_parse.proofs.parse_frame.Tie as tie
 

@@ -7,7 +7,6 @@ use denote.Ref.{now}
 use Rattle.felica_format.specs.Layout.{classOf, has, plainRows, secureRows}
 use Rattle.felica_format.specs.Read.{readSecure}
 use Rattle.felica_parse.proofs.Entry.{refusal-settled, secure-refused, secure-settled, not-secure, read-secure, write-secure, register-secure}
-use borrow.Author.Needs.{needs}
 use Rattle.felica_parse.proofs.parse_secure_payload.Statement.{statement}
 use Rattle.felica_parse.proofs.parse_secure_payload.Tie as tie
 

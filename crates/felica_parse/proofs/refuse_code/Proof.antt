@@ -1,13 +1,12 @@
 -- `refuse_code` meets its contract: the table gives the class.
 -- Assumes nothing.
 use borrow.Author.Needs.{needs}
-use mathlib.Core.Path.{_≡_, sym, ap, _∙_}
+use mathlib.Core.Path.{sym, ap, _∙_}
 use mathlib.Core.Option.{some}
 use lib.ListN.{drop}
 use Rattle.felica_format.specs.declared.classes.Class.{Class}
 use Rattle.felica_format.specs.Read.{readPlainAs}
 use Rattle.felica_parse.proofs.Entry.{refusal-account}
-use borrow.Author.Needs.{needs}
 use Rattle.felica_parse.proofs.refuse_code.Statement.{statement}
 use Rattle.felica_parse.proofs.refuse_code.Tie as tie
 

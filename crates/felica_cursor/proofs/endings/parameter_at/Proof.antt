@@ -1,7 +1,7 @@
 -- `parameter_at` meets its contract.
 -- Assumes nothing.
 use borrow.Author.Needs.{needs}
-use mathlib.Core.Path.{_≡_, refl, sym, _∙_}
+use mathlib.Core.Path.{refl, sym, _∙_}
 use Prim.Native.Nat.{_+_}
 use native.Mathlib.Nat.{add-zero}
 use denote.Ref.{now}
@@ -11,7 +11,6 @@ use Rattle.felica_format.specs.Basic.{refuseIf}
 use Rattle.felica_format.specs.Read.{readValues}
 use Rattle.felica_command.proofs.Typed.{encryption-defined, encryption-undefined, packet-defined, packet-undefined}
 use Rattle.felica_cursor.proofs.Laws.{zero-drop}
-use borrow.Author.Needs.{needs}
 use Rattle.felica_cursor.proofs.endings.parameter_at.Statement.{statement}
 use Rattle.felica_cursor.proofs.endings.parameter_at.Tie as tie
 

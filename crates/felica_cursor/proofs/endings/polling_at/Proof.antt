@@ -11,7 +11,6 @@ use lib.Seq.{getD-drop}
 use Rattle.felica_format.specs.Basic.{refuseIf}
 use Rattle.felica_format.specs.Read.{readValues}
 use Rattle.felica_cursor.proofs.Laws.{ltb-not-leb, not-false, polling-values}
-use borrow.Author.Needs.{needs}
 use Rattle.felica_cursor.proofs.endings.polling_at.Statement.{statement}
 use Rattle.felica_cursor.proofs.endings.polling_at.Tie as tie
 

@@ -2,7 +2,6 @@
 -- Assumes nothing.
 use borrow.Author.Needs.{needs}
 use native.Mathlib.Numerals.{add-one}
-use borrow.Author.Needs.{needs}
 use Rattle.felica_cursor.proofs.endings.word_at.Statement.{statement}
 use Rattle.felica_cursor.proofs.endings.word_at.Tie as tie
 

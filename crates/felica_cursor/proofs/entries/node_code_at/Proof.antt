@@ -3,7 +3,6 @@
 use borrow.Author.Needs.{needs}
 use mathlib.Core.Path.{sym, ap, _∙_}
 use Rattle.felica_cursor.specs.Entries.{wordFound}
-use borrow.Author.Needs.{needs}
 use Rattle.felica_cursor.proofs.entries.node_code_at.Statement.{statement}
 use Rattle.felica_cursor.proofs.entries.node_code_at.Tie as tie
 

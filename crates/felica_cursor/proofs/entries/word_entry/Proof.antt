@@ -1,12 +1,11 @@
 -- `word_entry` meets its contract.
 -- Assumes nothing.
 use borrow.Author.Needs.{needs}
-use mathlib.Core.Path.{_≡_, sym}
+use mathlib.Core.Path.{sym}
 use native.Mathlib.Numerals.{add-one}
 use native.Mathlib.Omega.{arith}
 use denote.Ref.{now}
 use Rattle.felica_cursor.proofs.OneEntry.{no-code, no-room, one-code}
-use borrow.Author.Needs.{needs}
 use Rattle.felica_cursor.proofs.entries.word_entry.Statement.{statement}
 use Rattle.felica_cursor.proofs.entries.word_entry.Tie as tie
 

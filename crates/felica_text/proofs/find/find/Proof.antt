@@ -1,4 +1,4 @@
--- `felica_calls::find::find` meets its contract: what is left to look at is known at each turn.
+-- `felica_text::find::find` meets its contract: what is left to look at is known at each turn.
 -- Assumes nothing.
 use native.Mathlib.Omega.{arith}
 use Prim.Native.Nat.{_+_, _-_, _≤_}

@@ -1,4 +1,4 @@
--- `felica_calls::hex::digit_value` meets its contract.
+-- `felica_text::hex::digit_value` meets its contract.
 -- Assumes nothing.
 use borrow.Author.Tests.{lt-ltb, le-ltb, le-leb, lt-leb}
 use mathlib.Core.Path.{ap}

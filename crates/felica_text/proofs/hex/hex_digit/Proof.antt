@@ -1,4 +1,4 @@
--- `felica_calls::hex::hex_digit` meets its contract.
+-- `felica_text::hex::hex_digit` meets its contract.
 -- Assumes nothing.
 use borrow.Author.Tests.{lt-ltb, le-ltb}
 use native.Mathlib.Omega.{arith}

@@ -1,4 +1,4 @@
--- `felica_calls::put::put_decimal` meets its contract: it calls itself on the number without its last digit.
+-- `felica_text::put::put_decimal` meets its contract: it calls itself on the number without its last digit.
 -- Assumes nothing.
 use borrow.Author.Needs.{needs}
 use native.Mathlib.Omega.{arith}

@@ -1,4 +1,4 @@
--- `felica_calls::put::put_byte` meets its contract: a byte is stored where there is room.
+-- `felica_text::put::put_byte` meets its contract: a byte is stored where there is room.
 -- Assumes nothing.
 use borrow.Author.Tests.{lt-ltb, le-ltb}
 use Rattle.felica_text.specs.Put.{put}

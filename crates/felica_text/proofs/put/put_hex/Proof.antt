@@ -1,4 +1,4 @@
--- `felica_calls::put::put_hex` meets its contract.
+-- `felica_text::put::put_hex` meets its contract.
 -- Assumes nothing.
 use mathlib.Core.Path.{sym, ap, _∙_}
 use Rattle.felica_text.specs.Put.{put}

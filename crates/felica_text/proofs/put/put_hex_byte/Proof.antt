@@ -1,4 +1,4 @@
--- `felica_calls::put::put_hex_byte` meets its contract: two digits.
+-- `felica_text::put::put_hex_byte` meets its contract: two digits.
 -- Assumes nothing.
 use Rattle.felica_text.proofs.Laws.{put-then}
 use borrow.Author.Needs.{needs}

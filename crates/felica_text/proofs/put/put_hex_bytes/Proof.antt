@@ -1,4 +1,4 @@
--- `felica_calls::put::put_hex_bytes` meets its contract.
+-- `felica_text::put::put_hex_bytes` meets its contract.
 -- Assumes nothing.
 use borrow.Author.Needs.{needs}
 use native.Mathlib.Omega.{arith}

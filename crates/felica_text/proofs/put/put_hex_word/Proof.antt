@@ -1,4 +1,4 @@
--- `felica_calls::put::put_hex_word` meets its contract: the high byte, then the low one.
+-- `felica_text::put::put_hex_word` meets its contract: the high byte, then the low one.
 -- Assumes nothing.
 use Rattle.felica_text.proofs.Laws.{put-then}
 use borrow.Author.Needs.{needs}

@@ -3,7 +3,6 @@
 use borrow.Author.Needs.{needs}
 use native.Mathlib.Omega.{arith}
 use lib.ListN.{length-drop}
-use borrow.Author.Needs.{needs}
 use Rattle.felica_cursor.proofs.cursor.Cursor.left.Statement.{statement}
 use Rattle.felica_cursor.proofs.cursor.Cursor.left.Tie as tie
 

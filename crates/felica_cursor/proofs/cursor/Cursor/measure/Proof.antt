@@ -5,7 +5,6 @@ use mathlib.Core.Path.{refl, sym}
 use borrow.Author.Tests.{lt-ltb, le-ltb}
 use Rattle.felica_format.specs.Basic.{refuseIf}
 use Rattle.felica_cursor.specs.Steps.{measured}
-use borrow.Author.Needs.{needs}
 use Rattle.felica_cursor.proofs.cursor.Cursor.measure.Statement.{statement}
 use Rattle.felica_cursor.proofs.cursor.Cursor.measure.Tie as tie
 

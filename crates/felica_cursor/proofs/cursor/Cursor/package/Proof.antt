@@ -1,9 +1,8 @@
 -- `Cursor::package` meets its contract.
 -- Assumes nothing.
 use borrow.Author.Needs.{needs}
-use mathlib.Core.Path.{_≡_, ap}
+use mathlib.Core.Path.{ap}
 use Rattle.felica_command.specs.Meaning.{part}
-use borrow.Author.Needs.{needs}
 use Rattle.felica_cursor.proofs.cursor.Cursor.package.Statement.{statement}
 use Rattle.felica_cursor.proofs.cursor.Cursor.package.Tie as tie
 

@@ -8,7 +8,6 @@ use borrow.Author.Tests.{lt-ltb, le-ltb}
 use Rattle.felica_format.specs.Basic.{refuseIf}
 use Rattle.felica_format.specs.Read.{readCount}
 use Rattle.felica_cursor.proofs.Laws.{at-front}
-use borrow.Author.Needs.{needs}
 use Rattle.felica_cursor.proofs.cursor.Cursor.take_between.Statement.{statement}
 use Rattle.felica_cursor.proofs.cursor.Cursor.take_between.Tie as tie
 

@@ -9,7 +9,6 @@ use Rattle.felica_format.specs.Read.{readElements}
 use Rattle.felica_cursor.specs.Answers.{MovesTo, byteTaken}
 use Rattle.felica_cursor.specs.Steps.{ElementsPlaced}
 use Rattle.felica_cursor.specs.declared.answers.ByteTaken.{ByteTaken}
-use borrow.Author.Needs.{needs}
 use Rattle.felica_cursor.proofs.cursor.Cursor.take_block_list.Statement.{statement}
 use Rattle.felica_cursor.proofs.cursor.Cursor.take_block_list.Tie as tie
 

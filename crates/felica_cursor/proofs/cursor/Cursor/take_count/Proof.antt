@@ -1,8 +1,6 @@
 -- `Cursor::take_count` meets its contract.
 -- Assumes nothing.
 use borrow.Author.Needs.{needs}
-use denote.Ref.{now}
-use borrow.Author.Needs.{needs}
 use Rattle.felica_cursor.proofs.cursor.Cursor.take_count.Statement.{statement}
 use Rattle.felica_cursor.proofs.cursor.Cursor.take_count.Tie as tie
 

@@ -9,7 +9,6 @@ use lib.Seq.{drop-drop}
 use borrow.Author.Tests.{lt-ltb, le-ltb}
 use Rattle.felica_format.specs.Basic.{refuseIf}
 use Rattle.felica_format.specs.Read.{readData}
-use borrow.Author.Needs.{needs}
 use Rattle.felica_cursor.proofs.cursor.Cursor.take_data.Statement.{statement}
 use Rattle.felica_cursor.proofs.cursor.Cursor.take_data.Tie as tie
 

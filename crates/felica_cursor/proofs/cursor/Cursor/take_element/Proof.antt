@@ -1,15 +1,14 @@
 -- `Cursor::take_element` meets its contract: at each return the bytes that are left are written out, and the tests pick the case.
 -- Assumes nothing.
 use borrow.Author.Needs.{needs}
-use mathlib.Core.Path.{_≡_, refl}
-use Prim.Native.Nat.{_+_, _<_}
+use mathlib.Core.Path.{_≡_}
+use Prim.Native.Nat.{_+_}
 use native.Mathlib.Omega.{arith}
 use denote.Ref.{now}
 use lib.ListN.{getD, drop, drop-of-length-le, length-drop}
 use borrow.Author.Tests.{lt-ltb, le-ltb}
 use Rattle.felica_format.specs.Read.{readElement, readLong, readShort}
 use Rattle.felica_cursor.proofs.Laws.{at-front, at-front-2, at-front-3, long-cut, short-cut}
-use borrow.Author.Needs.{needs}
 use Rattle.felica_cursor.proofs.cursor.Cursor.take_element.Statement.{statement}
 use Rattle.felica_cursor.proofs.cursor.Cursor.take_element.Tie as tie
 

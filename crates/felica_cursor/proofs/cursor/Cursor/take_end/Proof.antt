@@ -3,9 +3,8 @@
 use borrow.Author.Needs.{needs}
 use denote.Ref.{now}
 use lib.ListN.{drop}
-use Rattle.felica_cursor.specs.Answers.{noFields}
+use Rattle.felica_format.specs.Command.{noFields}
 use Rattle.felica_cursor.proofs.Laws.{end-measured, moved-alike}
-use borrow.Author.Needs.{needs}
 use Rattle.felica_cursor.proofs.cursor.Cursor.take_end.Statement.{statement}
 use Rattle.felica_cursor.proofs.cursor.Cursor.take_end.Tie as tie
 

@@ -8,7 +8,6 @@ use lib.Seq.{drop-drop}
 use borrow.Author.Tests.{lt-ltb, le-ltb}
 use Rattle.felica_format.specs.Basic.{refuseIf}
 use Rattle.felica_format.specs.Read.{readIdm}
-use borrow.Author.Needs.{needs}
 use Rattle.felica_cursor.proofs.cursor.Cursor.take_idm.Statement.{statement}
 use Rattle.felica_cursor.proofs.cursor.Cursor.take_idm.Tie as tie
 

@@ -8,7 +8,6 @@ use lib.Seq.{drop-drop}
 use borrow.Author.Tests.{lt-ltb, le-ltb}
 use Rattle.felica_format.specs.Basic.{refuseIf}
 use Rattle.felica_format.specs.Read.{readEnding, readValues}
-use borrow.Author.Needs.{needs}
 use Rattle.felica_cursor.proofs.cursor.Cursor.take_issue.Statement.{statement}
 use Rattle.felica_cursor.proofs.cursor.Cursor.take_issue.Tie as tie
 

@@ -1,15 +1,13 @@
 -- `Cursor::take_node_property_type` meets its contract.
 -- Assumes nothing.
 use borrow.Author.Needs.{needs}
-use mathlib.Core.Path.{_≡_, refl, sym, _∙_}
-use Prim.Native.Nat.{_+_}
+use mathlib.Core.Path.{refl, sym, _∙_}
 use denote.Ref.{now}
-use lib.ListN.{getD, drop, drop-of-length-le}
+use lib.ListN.{getD, drop-of-length-le}
 use Rattle.felica_format.specs.Basic.{refuseIf}
 use Rattle.felica_format.specs.Read.{readSelector}
 use Rattle.felica_command.proofs.Typed.{property-defined, property-undefined}
 use Rattle.felica_cursor.proofs.Laws.{at-front}
-use borrow.Author.Needs.{needs}
 use Rattle.felica_cursor.proofs.cursor.Cursor.take_node_property_type.Statement.{statement}
 use Rattle.felica_cursor.proofs.cursor.Cursor.take_node_property_type.Tie as tie
 

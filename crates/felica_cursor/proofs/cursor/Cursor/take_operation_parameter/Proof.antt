@@ -6,7 +6,6 @@ use denote.Ref.{now}
 use lib.ListN.{drop-of-length-le}
 use Rattle.felica_format.specs.Read.{readSelector}
 use Rattle.felica_cursor.proofs.Laws.{at-front}
-use borrow.Author.Needs.{needs}
 use Rattle.felica_cursor.proofs.cursor.Cursor.take_operation_parameter.Statement.{statement}
 use Rattle.felica_cursor.proofs.cursor.Cursor.take_operation_parameter.Tie as tie
 

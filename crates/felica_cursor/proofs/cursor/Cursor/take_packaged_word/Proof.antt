@@ -10,7 +10,6 @@ use borrow.Author.Tests.{lt-ltb, le-ltb}
 use Rattle.felica_format.specs.Basic.{refuseIf}
 use Rattle.felica_format.specs.Read.{readEnding, readValues}
 use Rattle.felica_cursor.proofs.Laws.{word-drop}
-use borrow.Author.Needs.{needs}
 use Rattle.felica_cursor.proofs.cursor.Cursor.take_packaged_word.Statement.{statement}
 use Rattle.felica_cursor.proofs.cursor.Cursor.take_packaged_word.Tie as tie
 

@@ -1,8 +1,7 @@
 -- `Cursor::take_reserved` meets its contract.
 -- Assumes nothing.
 use borrow.Author.Needs.{needs}
-use mathlib.Core.Path.{_≡_, refl, sym, ap, _∙_}
-use Prim.Native.Nat.{_+_}
+use mathlib.Core.Path.{refl, sym, ap, _∙_}
 use native.Mathlib.Omega.{arith}
 use denote.Ref.{now}
 use lib.Dec.{lit<}
@@ -15,7 +14,6 @@ use Rattle.felica_cursor.specs.declared.answers.Moved.{Moved}
 use Rattle.felica_cursor.proofs.Laws.{ending-refused, ending-taken, measured-fits, zero-drop}
 use native.Mathlib.Nat.{add-zero}
 use Rattle.felica_format.specs.Basic.{refuseIf}
-use borrow.Author.Needs.{needs}
 use Rattle.felica_cursor.proofs.cursor.Cursor.take_reserved.Statement.{statement}
 use Rattle.felica_cursor.proofs.cursor.Cursor.take_reserved.Tie as tie
 

@@ -8,7 +8,6 @@ use Rattle.felica_format.specs.Read.{readCodes}
 use Rattle.felica_cursor.specs.Answers.{MovesTo, byteTaken}
 use Rattle.felica_cursor.specs.Steps.{CodesPlaced}
 use Rattle.felica_cursor.specs.declared.answers.ByteTaken.{ByteTaken}
-use borrow.Author.Needs.{needs}
 use Rattle.felica_cursor.proofs.cursor.Cursor.take_u16_list.Statement.{statement}
 use Rattle.felica_cursor.proofs.cursor.Cursor.take_u16_list.Tie as tie
 

@@ -8,7 +8,6 @@ use lib.Seq.{drop-drop}
 use borrow.Author.Tests.{lt-ltb, le-ltb}
 use Rattle.felica_format.specs.Basic.{refuseIf}
 use Rattle.felica_format.specs.Read.{readWords}
-use borrow.Author.Needs.{needs}
 use Rattle.felica_cursor.proofs.cursor.Cursor.take_u16s.Statement.{statement}
 use Rattle.felica_cursor.proofs.cursor.Cursor.take_u16s.Tie as tie
 

@@ -1,8 +1,7 @@
 -- `Cursor::take_word` meets its contract.
 -- Assumes nothing.
 use borrow.Author.Needs.{needs}
-use mathlib.Core.Path.{_≡_, refl, sym, ap, _∙_}
-use Prim.Native.Nat.{_+_}
+use mathlib.Core.Path.{refl, ap, _∙_}
 use native.Mathlib.Omega.{arith}
 use denote.Ref.{now}
 use lib.Dec.{lit<}
@@ -14,7 +13,6 @@ use Rattle.felica_cursor.specs.Answers.{asStep, movedWith}
 use Rattle.felica_cursor.specs.declared.answers.Moved.{Moved}
 use Rattle.felica_cursor.proofs.Laws.{ending-refused, ending-taken, measured-fits, word-drop}
 use native.Mathlib.Nat.{add-zero}
-use borrow.Author.Needs.{needs}
 use Rattle.felica_cursor.proofs.cursor.Cursor.take_word.Statement.{statement}
 use Rattle.felica_cursor.proofs.cursor.Cursor.take_word.Tie as tie
 
