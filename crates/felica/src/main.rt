@@ -1,6 +1,12 @@
 // Answers calls: reads them on standard input, a line each, and writes a line for each to standard output.
 ghost use Prim.Native.Nat.{_≤_};
-ghost use lib.ListN.{length};
+ghost use mathlib.Core.Path.{_≡_};
+ghost use lib.ListN.{length, drop};
+ghost use Rattle.felica_format.specs.Read.{readFrame, readPayload, readSecure};
+ghost use Rattle.felica_command.specs.Places.{Account};
+ghost use Rattle.felica_command.specs.declared.command.Parsed.{Parsed};
+ghost use Rattle.felica_text.specs.Put.{buffer, put};
+ghost use Rattle.felica_calls.specs.Answer.{lineOf};
 use felica_calls::answer::put_answer;
 use felica_calls::call::Call;
 use felica_calls::call::read_call;
@@ -34,8 +40,9 @@ struct State {
     failed: bool,
 }
 
+// The line of the one result that the definitions allow.
 fn answer_frame(frame: &[u8], out: &mut [u8], at: usize) -> usize
-    ensures { λ r. ⌜ (at ≤ length (now (out .entry)) → r ≤ length (now (out .exit))) ⌝ }
+    ensures { λ r. ⌜ ((p : Parsed) × Account (drop 1 (now (frame .entry))) 1 (readFrame (now (frame .entry))) p × (buffer (now (out .exit)) r ≡ put (buffer (now (out .entry)) at) (lineOf (drop 1 (now (frame .entry))) p))) ⌝ }
 {
     let parsed = parse_frame(frame);
     if frame.len() == 0 {
@@ -45,13 +52,13 @@ fn answer_frame(frame: &[u8], out: &mut [u8], at: usize) -> usize
 }
 
 fn answer_payload(payload: &[u8], out: &mut [u8], at: usize) -> usize
-    ensures { λ r. ⌜ (at ≤ length (now (out .entry)) → r ≤ length (now (out .exit))) ⌝ }
+    ensures { λ r. ⌜ ((p : Parsed) × Account (now (payload .entry)) 1 (readPayload (now (payload .entry))) p × (buffer (now (out .exit)) r ≡ put (buffer (now (out .entry)) at) (lineOf (now (payload .entry)) p))) ⌝ }
 {
     put_answer(out, at, payload, parse_payload(payload))
 }
 
 fn answer_secure(code: u8, payload: &[u8], out: &mut [u8], at: usize) -> usize
-    ensures { λ r. ⌜ (at ≤ length (now (out .entry)) → r ≤ length (now (out .exit))) ⌝ }
+    ensures { λ r. ⌜ ((p : Parsed) × Account (now (payload .entry)) 0 (readSecure code (now (payload .entry))) p × (buffer (now (out .exit)) r ≡ put (buffer (now (out .entry)) at) (lineOf (now (payload .entry)) p))) ⌝ }
 {
     put_answer(out, at, payload, parse_secure_payload(code, payload))
 }

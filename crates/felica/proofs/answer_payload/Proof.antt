@@ -1,6 +1,5 @@
--- `felica::answer_payload` stays within the output.
+-- `felica::answer_payload` writes the line of what the parser says.
 -- Assumes nothing.
-use Rattle.felica_text.proofs.Laws.{put-within}
 use borrow.Author.Needs.{needs}
 use Rattle.felica.proofs.answer_payload.Statement.{statement}
 use Rattle.felica.proofs.answer_payload.Tie as tie
@@ -15,7 +14,9 @@ same-length : tie.Need-same-length
 same-length c = search needs
 
 returns : tie.Need-returns
-returns c = put-within _ _ _ (c .before .before .put-answer .ensures)
+returns c =
+    let p = c .before .before .before .parse-payload in
+    (p .result, (p .ensures .0, p .ensures .1, p .ensures .2), c .before .before .put-answer .ensures)
 
 pub answer-payload-spec : {M : Type 1} → statement M
 answer-payload-spec =
