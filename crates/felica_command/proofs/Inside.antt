@@ -24,7 +24,7 @@ use Rattle.felica_command.specs.Places.{packagePart, layoutPlaces, noPla
 use Rattle.felica_command.specs.Places.{Inside, PayloadInside, SecureInside}
 
 -- r is what stands behind the first n bytes of l, and these are there
-abbrev Leaves : ℕ → List ℕ → List ℕ → Type 0
+abbrev pub Leaves : ℕ → List ℕ → List ℕ → Type 0
 Leaves n l r = (r ≡ drop n l) × (n ≤ length l)
 
 leaves-then : (a b : ℕ) (l m r : List ℕ) → Leaves a l m → Leaves b m r → Leaves (a + b) l r
@@ -96,7 +96,7 @@ element-leaves (head ∷ l) e r h = go (ltb head 128) h
     go true t = long-leaves head l e r t
     go false t = short-leaves head l e r t
 
-each-leaves : (n : ℕ) (l : List ℕ) (es : List Element) (r : List ℕ) → readEach n l ≡ taken es r → Leaves (elementsSize n l) l r × (length es ≡ n)
+pub each-leaves : (n : ℕ) (l : List ℕ) (es : List Element) (r : List ℕ) → readEach n l ≡ taken es r → Leaves (elementsSize n l) l r × (length es ≡ n)
 unfolding readEach elementsSize
 each-leaves zero l es r h = ((sym (taken-rest h), omega arith), ap length (sym (taken-value h)))
 each-leaves (suc n) l es r h =

@@ -86,25 +86,6 @@ pub size-done : (s : List ℕ) (at k : ℕ) → k ≡ 0 → at + elementsSize k 
 unfolding elementsSize
 size-done s at k p = rw p (add-zero at)
 
--- how many elements are read
-length-more : (e : Element) (n : ℕ) (x : Step (List Element)) (es : List Element) (r : List ℕ)
-    → ((es′ : List Element) (r′ : List ℕ) → x ≡ taken es′ r′ → length es′ ≡ n) → bind x (λ es t. taken (e ∷ es) t) ≡ taken es r → length es ≡ suc n
-unfolding bind
-length-more e n (taken es′ r′) es r f h = let q : (e ∷ es′) ≡ es = cc in rw (← q) (ap suc (f es′ r′ refl))
-length-more e n (refuse g) es r f h = absurd (none-taken h)
-
-length-next : (x : Step Element) (n : ℕ) (es : List Element) (r : List ℕ)
-    → ((l : List ℕ) (es′ : List Element) (r′ : List ℕ) → readEach n l ≡ taken es′ r′ → length es′ ≡ n)
-    → bind x (λ e l. bind (readEach n l) (λ es t. taken (e ∷ es) t)) ≡ taken es r → length es ≡ suc n
-unfolding bind
-length-next (taken e l) n es r f h = length-more e n (readEach n l) es r (f l) h
-length-next (refuse g) n es r f h = absurd (none-taken h)
-
-pub each-length : (n : ℕ) (l : List ℕ) (es : List Element) (r : List ℕ) → readEach n l ≡ taken es r → length es ≡ n
-unfolding readEach
-each-length zero l es r h = let q : [] ≡ es = cc in rw (← q)
-each-length (suc n) l es r h = length-next (readElement l) n es r (each-length n) h
-
 -- a turn of a loop that copies the bytes at a place to the front of d
 pub paste-more : (d s : List ℕ) (at : ℕ) (out : List ℕ) (i : ℕ) → i < length d → at + i < length s → out ≡ paste d 0 (drop at s) i
     → set out i (getD s (at + i) 0) ≡ paste d 0 (drop at s) (i + 1)
@@ -212,7 +193,3 @@ unfolding readValues refuseIf
 polling-values s at request slots =
     let e : at + 0 ≡ at = omega arith in
     rw (getD-drop at s 0 0, getD-drop at s 1 0, getD-drop at s 2 0, getD-drop at s 3 0, e, drop-drop, request, slots)
-
-pub not-false : (b : Bool) → not b ≡ false → b ≡ true
-not-false true e = refl
-not-false false e = sym e

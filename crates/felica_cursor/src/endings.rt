@@ -1,7 +1,7 @@
 // The steps of the fixed bytes that end a layout. They are measured first, and only then are their values tested.
 ghost use mathlib.Core.Path.{_≡_};
 ghost use mathlib.Core.List.{_++_};
-ghost use Prim.Native.Nat.{_+_, _-_, _≤_};
+ghost use Prim.Native.Nat.{_+_, _-_, _<_, _≤_};
 ghost use lib.ListN.{length, take, drop};
 ghost use Rattle.felica_format.specs.Basic.{zeros, wordAt};
 ghost use Rattle.felica_format.specs.Layout.{bare, bytes, word, words, reserved, polling, parameter, nothing, aPackage};
@@ -142,42 +142,37 @@ impl Cursor {
         Moved::On(Cursor { at: at + 2 })
     }
 
-    // The challenge of Authentication1 and 2.
-    pub fn take_challenge_8(self, payload: &[u8]) -> ChallengeTaken
-        ensures { λ r. ⌜ (readEnding (bytes 8) nothing (drop (self .at) (now (payload .entry))) ≡ asStep (now (payload .entry)) (challengeTaken r)) × MovesTo (self .at + 8) (challengeTaken r) × ChallengeZero r ⌝ }
+    fn take_challenge(self, payload: &[u8], size: usize) -> ChallengeTaken
+        requires { ⌜ (0 < size) × (size ≤ 16) ⌝ }
+        ensures { λ r. ⌜ (readEnding (bytes size) nothing (drop (self .at) (now (payload .entry))) ≡ asStep (now (payload .entry)) (challengeTaken r)) × MovesTo (self .at + size) (challengeTaken r) × ChallengeZero r ⌝ }
     {
         let at = self.at;
-        let step = self.measure(payload, 8);
+        let step = self.measure(payload, size);
         let Moved::On(_) = step else {
             return ChallengeTaken {
                 step: step,
                 challenge: [0u8; 16],
             };
         };
-        let challenge = challenge_at(payload, at, 8);
+        let challenge = challenge_at(payload, at, size);
         ChallengeTaken {
-            step: Moved::On(Cursor { at: at + 8 }),
+            step: Moved::On(Cursor { at: at + size }),
             challenge: challenge,
         }
+    }
+
+    // The challenge of Authentication1 and 2.
+    pub fn take_challenge_8(self, payload: &[u8]) -> ChallengeTaken
+        ensures { λ r. ⌜ (readEnding (bytes 8) nothing (drop (self .at) (now (payload .entry))) ≡ asStep (now (payload .entry)) (challengeTaken r)) × MovesTo (self .at + 8) (challengeTaken r) × ChallengeZero r ⌝ }
+    {
+        self.take_challenge(payload, 8)
     }
 
     // The challenge of Authentication1 v2 and 2 v2.
     pub fn take_challenge_16(self, payload: &[u8]) -> ChallengeTaken
         ensures { λ r. ⌜ (readEnding (bytes 16) nothing (drop (self .at) (now (payload .entry))) ≡ asStep (now (payload .entry)) (challengeTaken r)) × MovesTo (self .at + 16) (challengeTaken r) × ChallengeZero r ⌝ }
     {
-        let at = self.at;
-        let step = self.measure(payload, 16);
-        let Moved::On(_) = step else {
-            return ChallengeTaken {
-                step: step,
-                challenge: [0u8; 16],
-            };
-        };
-        let challenge = challenge_at(payload, at, 16);
-        ChallengeTaken {
-            step: Moved::On(Cursor { at: at + 16 }),
-            challenge: challenge,
-        }
+        self.take_challenge(payload, 16)
     }
 
     // Issue id and issue parameter, with a package behind them.

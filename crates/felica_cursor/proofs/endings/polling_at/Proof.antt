@@ -8,9 +8,10 @@ use denote.Ref.{now}
 use lib.Dec.{ltb}
 use lib.ListN.{getD}
 use lib.Seq.{getD-drop}
+use borrow.Author.Tests.{not-false}
 use Rattle.felica_format.specs.Basic.{refuseIf}
 use Rattle.felica_format.specs.Read.{readValues}
-use Rattle.felica_cursor.proofs.Laws.{ltb-not-leb, not-false, polling-values}
+use Rattle.felica_cursor.proofs.Laws.{ltb-not-leb, polling-values}
 use Rattle.felica_cursor.proofs.endings.polling_at.Statement.{statement}
 use Rattle.felica_cursor.proofs.endings.polling_at.Tie as tie
 

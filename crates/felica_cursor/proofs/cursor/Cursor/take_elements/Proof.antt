@@ -12,9 +12,10 @@ use Rattle.felica_format.specs.Command.{Element}
 use Rattle.felica_format.specs.Read.{readEach, readElement}
 use Rattle.felica_command.specs.Types.{elementIs}
 use Rattle.felica_command.specs.Places.{elementsSize}
+use Rattle.felica_command.proofs.Inside.{each-leaves}
 use Rattle.felica_cursor.specs.Steps.{elementTaken, ElementPlaced}
 use Rattle.felica_cursor.specs.declared.answers.ElementTaken.{ElementTaken}
-use Rattle.felica_cursor.proofs.Laws.{before, before-none, each-more, each-refused, each-done, each-length, size-more, size-done}
+use Rattle.felica_cursor.proofs.Laws.{before, before-none, each-more, each-refused, each-done, size-more, size-done}
 use Rattle.felica_cursor.proofs.cursor.Cursor.take_elements.Statement.{statement}
 use Rattle.felica_cursor.proofs.cursor.Cursor.take_elements.Tie as tie
 
@@ -79,7 +80,7 @@ returns-2 c =
     let s = now (c .before .before .before .args .payload) in
     let p : loop .left ≡ 0 = omega arith in
     let h = loop .inv .0 .1 ∙ each-done (loop .inv .0 .0) (loop .left) (drop (loop .at) s) p in
-    (rw h, (refl, rw h (each-length _ _ _ _ h), sym (loop .inv .1 ∙ size-done s (loop .at) (loop .left) p)))
+    (rw h, (refl, rw h (each-leaves _ _ _ _ h .1), sym (loop .inv .1 ∙ size-done s (loop .at) (loop .left) p)))
 
 pub take-elements-spec : {M : Type 1} → statement M
 take-elements-spec =
