@@ -19,6 +19,8 @@ use Rattle.felica_format.specs.Read.{readPlainAs, readSecureAs, readPayload, re
 use Rattle.felica_format.specs.declared.classes.Class.{Class}
 use Rattle.felica_format.specs.declared.classes.Class.the-variants.{Plain, Secure, Unknown}
 use Rattle.felica_format.proofs.Steps.{taken-value, taken-rest, none-taken, refuseIf-passed, refuseIf-taken, bind-taken}
+use Rattle.felica_command.specs.declared.command.Part.{Part}
+use Rattle.felica_command.specs.Meaning.{elementsAt}
 use Rattle.felica_command.specs.Places.{idmSize, selectorSize, codesPart, codesSize, elementSize, elementsSize, blocksPart, blocksSize, dataPart}
 use Rattle.felica_command.specs.Places.{packagePart, layoutPlaces, noPlaces, readPlaces}
 use Rattle.felica_command.specs.Places.{Inside, PayloadInside, SecureInside}
@@ -107,6 +109,42 @@ each-leaves (suc n) l es r h =
     let size = subst (λ (t : List ℕ). Leaves (elementSize (getD l 0 0) + elementsSize n t) l (rest .1)) (one .0)
     (leaves-then (elementSize (getD l 0 0)) (elementsSize n (first .1)) l (first .1) (rest .1) one (more .0)) in
     ((sym (taken-rest (rest .3)) ∙ size .0, size .1), ap length (sym (taken-value (rest .3))) ∙ ap suc (more .1))
+
+long-whole : (head a b : ℕ) (l : List ℕ) → (e : Element) × (readLong head (a ∷ b ∷ l) ≡ taken e l)
+unfolding readLong
+long-whole head a b l = (_, refl)
+
+short-whole : (head a : ℕ) (l : List ℕ) → (e : Element) × (readShort head (a ∷ l) ≡ taken e l)
+unfolding readShort
+short-whole head a l = (_, refl)
+
+-- Elements whose bytes are there are read, as many as there should be.
+element-whole : (l : List ℕ) → elementSize (getD l 0 0) ≤ length l → (e : Element) × (readElement l ≡ taken e (drop (elementSize (getD l 0 0)) l))
+unfolding readElement
+element-whole [] h = absurd (omega arith)
+element-whole (head ∷ l) h = go (ltb head 128) l h
+  where
+    go : (q : Bool) (l : List ℕ) → cond q 3 2 ≤ length (head ∷ l)
+        → (e : Element) × (cond q (readLong head l) (readShort head l) ≡ taken e (drop (cond q 3 2) (head ∷ l)))
+    go true [] h = absurd (omega arith)
+    go true (a ∷ []) h = absurd (omega arith)
+    go true (a ∷ b ∷ l) h = long-whole head a b l
+    go false [] h = absurd (omega arith)
+    go false (a ∷ l) h = short-whole head a l
+
+pub each-whole : (n : ℕ) (l : List ℕ) → elementsSize n l ≤ length l → (es : List Element) × (readEach n l ≡ taken es (drop (elementsSize n l) l))
+unfolding readEach elementsSize bind
+each-whole zero l h = ([], refl)
+each-whole (suc n) l h =
+    let size = elementSize (getD l 0 0) in
+    let first = element-whole l (omega arith) in
+    let rest = each-whole n (drop size l) (rw length-drop (omega arith)) in
+    (first .0 ∷ rest .0, rw (first .1, rest .1) (ap (λ (t : List ℕ). taken (first .0 ∷ rest .0) t) (drop-drop (elementsSize n (drop size l)) size l)))
+
+pub elements-counted : (s : List ℕ) (p : Part) → p .start + elementsSize (p .count) (drop (p .start) s) ≤ length s → length (elementsAt s p) ≡ p .count
+elements-counted s p h =
+    let whole = each-whole (p .count) (drop (p .start) s) (rw length-drop (omega arith)) in
+    rw (whole .1) (each-leaves (p .count) (drop (p .start) s) (whole .0) _ (whole .1) .1)
 
 elements-leaves : (missing outside : ℕ) (b : Bool) (l : List ℕ) (es : List Element) (r : List ℕ) → readElements missing outside b l ≡ taken es r
     → Leaves (blocksSize b l 0 (length es)) l r

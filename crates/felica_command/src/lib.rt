@@ -1,3 +1,4 @@
 // The commands as types: codes and numbers in their wrappers, the commands with their fields, and the result of a parse.
 pub mod command;
+pub mod lists;
 pub mod types;

@@ -1,4 +1,5 @@
-// The texts of error.rs under `Protocol`, as the numbers of document 01's table: the grounds on which bytes are refused.
+// The texts of error.rs under `Protocol`, as the numbers of document 01's table: the grounds on which bytes are refused. Then the one on which
+// a lent buffer is.
 pub const EMPTY_FRAME: u8 = 1;
 
 pub const LENGTH_BYTE_WRONG: u8 = 2;
@@ -42,3 +43,5 @@ pub const FIRST_TYPE_UNDEFINED: u8 = 19;
 
 // Time slots or packet type.
 pub const SECOND_TYPE_UNDEFINED: u8 = 20;
+
+pub const BUFFER_TOO_SMALL: u8 = 21;

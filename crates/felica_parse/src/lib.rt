@@ -40,7 +40,7 @@ use secure::parse_register;
 use secure::parse_register_issue_id;
 use secure::parse_write;
 
-// A frame: the length byte, which counts itself, and the payload. The places of the parts count from the payload's first byte, the one behind the length byte.
+// A frame: the length byte, which counts itself, and the payload. The places of the parts count from the payload's first byte.
 pub fn parse_frame(frame: &[u8]) -> Parsed
     ensures { λ r. ⌜ (meaning (drop 1 (now (frame .entry))) r ≡ readFrame (now (frame .entry))) × (placesOf r ≡ readPlaces 1 (drop 1 (now (frame .entry))) (readFrame (now (frame .entry)))) × Canonical r × Inside (drop 1 (now (frame .entry))) (placesOf r) ⌝ }
 {
@@ -52,6 +52,16 @@ pub fn parse_frame(frame: &[u8]) -> Parsed
         return Parsed::refused_without_code(error::LENGTH_BYTE_WRONG);
     }
     parse_payload(&frame[1..])
+}
+
+// The payload of a frame: what stands behind the length byte. The places in the result of `parse_frame` count from its first byte.
+pub fn payload_of(frame: &[u8]) -> &[u8]
+    ensures { λ r. ⌜ now r ≡ drop 1 (now (frame .entry)) ⌝ }
+{
+    if frame.len() == 0 {
+        return frame;
+    }
+    &frame[1..]
 }
 
 // A payload: the code byte and the body of its command.
