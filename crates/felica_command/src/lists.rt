@@ -35,8 +35,15 @@ impl FelicaStandardCommand {
             Self::Polling { .. } => Lists::of(none, none, none),
             Self::RequestService { service_codes } => Lists::of(service_codes, none, none),
             Self::RequestResponse => Lists::of(none, none, none),
-            Self::ReadWithoutEncryption { service_codes, block_list } => Lists::of(service_codes, none, block_list),
-            Self::WriteWithoutEncryption { service_codes, block_list, .. } => Lists::of(service_codes, none, block_list),
+            Self::ReadWithoutEncryption {
+                service_codes,
+                block_list,
+            } => Lists::of(service_codes, none, block_list),
+            Self::WriteWithoutEncryption {
+                service_codes,
+                block_list,
+                ..
+            } => Lists::of(service_codes, none, block_list),
             Self::SearchServiceCode { .. } => Lists::of(none, none, none),
             Self::RequestSystemCode => Lists::of(none, none, none),
             Self::RequestBlockInformation { node_codes } => Lists::of(node_codes, none, none),

@@ -62,13 +62,7 @@ fn fill_codes(payload: &[u8], list: Part, out: &mut [u16])
     }
 }
 
-fn fill_blocks(
-    payload: &[u8],
-    list: Part,
-    numbers: &mut [u16],
-    places: &mut [u8],
-    modes: &mut [u8],
-)
+fn fill_blocks(payload: &[u8], list: Part, numbers: &mut [u16], places: &mut [u8], modes: &mut [u8])
     requires { ⌜ BlocksInside (now payload) list × (list .count ≤ length (now numbers)) × (list .count ≤ length (now places)) × (list .count ≤ length (now modes)) ⌝ }
     ensures { λ _. ⌜ (now (numbers .exit) ≡ front (numbersAt (now (payload .entry)) list) (now (numbers .entry))) × (now (places .exit) ≡ front (placesAt (now (payload .entry)) list) (now (places .entry))) × (now (modes .exit) ≡ front (modesAt (now (payload .entry)) list) (now (modes .entry))) ⌝ }
 {

@@ -82,7 +82,15 @@ fn list_parsed(
     let Answer::Command(command) = answer else {
         return parsed;
     };
-    let filled = fill(payload, command.lists(), first, second, numbers, places, modes);
+    let filled = fill(
+        payload,
+        command.lists(),
+        first,
+        second,
+        numbers,
+        places,
+        modes,
+    );
     if filled {
         return parsed;
     }

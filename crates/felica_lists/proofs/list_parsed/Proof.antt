@@ -1,88 +1,86 @@
+-- `list_parsed` meets its contract: a refusal goes on as it is, a command with its lists or as 21.
+-- Assumes nothing.
 use borrow.Author.Needs.{needs}
+use mathlib.Core.Path.{_≡_, sym, ap, _∙_}
+use mathlib.Core.Bool.{Bool, cond}
+use mathlib.Core.Option.{some}
+use Prim.Native.Nat.{ℕ}
+use denote.Ref.{now}
+use Rattle.felica_command.specs.Meaning.{refusal}
+use Rattle.felica_command.specs.declared.command.Parsed.{Parsed}
+use Rattle.felica_lists.specs.Lists.{buffers}
+use Rattle.felica_lists.proofs.Give.{refused-given, lists-inside, command-given}
 use Rattle.felica_lists.proofs.list_parsed.Statement.{statement}
 use Rattle.felica_lists.proofs.list_parsed.Tie as tie
-use Rattle.felica_lists.proofs.list_parsed.Reads as reads
-use Rattle.felica_lists.proofs.list_parsed.Lts as lts
-use Rattle.felica_command.proofs.command.FelicaStandardCommand.command_code.Reads as command-code-reads
-use Rattle.felica_command.proofs.command.FelicaStandardCommand.lists.Reads as lists-reads
-use Rattle.felica_command.proofs.command.Parsed.refused.Reads as refused-reads
-use Rattle.felica_lists.proofs.fill.fill.Reads as fill-reads
 
--- src/lib.rt:82:25
 enum-known-answer : tie.Need-enum-known-answer
 enum-known-answer c = search needs
 
--- src/lib.rt:83:9
 enum-told : tie.Need-enum-told
 enum-told c = search needs
 
--- src/lib.rt:83:9
 returns : tie.Need-returns
-returns c = ?
+returns c =
+    let a = c .before .before .before .before .before .before .before .before .args in
+    let b = buffers (now (a .first)) (now (a .second)) (now (a .numbers)) (now (a .places)) (now (a .modes)) in
+    refused-given (now (a .payload)) (a .parsed) b (c .enum-told .given .1)
 
--- src/lib.rt:85:32
 lists-requires : tie.Need-lists-requires
 lists-requires c κs = search needs
 
--- src/lib.rt:85:9
 fill-requires : tie.Need-fill-requires
-fill-requires c κs = ?
+fill-requires c κs =
+    let a = c .before .before .before .before .before .before .before .before .before .before .before .before .before .before .before .args in
+    lists-inside (now (a .payload)) (a .parsed) (c .before .before .before .before .before .before .before .answer .given .1) (c .before .before .before .before .before .lists .ensures) (c .before .before .before .before .before .before .before .before .before .before .before .before .before .before .before .pre)
 
--- src/lib.rt:87:9
 same-length : tie.Need-same-length
 same-length c = search needs
 
--- src/lib.rt:87:9
 same-length-2 : tie.Need-same-length-2
 same-length-2 c = search needs
 
--- src/lib.rt:87:9
 same-length-3 : tie.Need-same-length-3
 same-length-3 c = search needs
 
--- src/lib.rt:87:9
 same-length-4 : tie.Need-same-length-4
 same-length-4 c = search needs
 
--- src/lib.rt:87:9
 same-length-5 : tie.Need-same-length-5
 same-length-5 c = search needs
 
--- src/lib.rt:87:9
 returns-2 : tie.Need-returns-2
-returns-2 c = ?
+returns-2 c =
+    let a = c .before .before .before .before .before .before .before .before .before .before .before .before .before .before .before .before .before .before .before .before .before .before .before .before .before .before .before .args in
+    let b = buffers (now (a .first)) (now (a .second)) (now (a .numbers)) (now (a .places)) (now (a .modes)) in
+    command-given (now (a .payload)) (a .parsed) b (c .before .before .before .before .before .before .before .before .before .before .before .before .before .before .before .before .before .before .before .answer .given .1) (c .before .before .before .before .before .before .before .before .before .before .before .before .before .before .before .before .before .lists .ensures) (c .before .before .before .before .before .before .before .before .before .before .before .fill .ensures) (rw (c .if1 .taken))
 
--- src/lib.rt:89:46
 command-code-requires : tie.Need-command-code-requires
 command-code-requires c κs = search needs
 
--- src/lib.rt:89:5
 refused-requires : tie.Need-refused-requires
 refused-requires c κs = search needs
 
--- src/lib.rt:69:1
 same-length-6 : tie.Need-same-length-6
 same-length-6 c = search needs
 
--- src/lib.rt:69:1
 same-length-7 : tie.Need-same-length-7
 same-length-7 c = search needs
 
--- src/lib.rt:69:1
 same-length-8 : tie.Need-same-length-8
 same-length-8 c = search needs
 
--- src/lib.rt:69:1
 same-length-9 : tie.Need-same-length-9
 same-length-9 c = search needs
 
--- src/lib.rt:69:1
 same-length-10 : tie.Need-same-length-10
 same-length-10 c = search needs
 
--- src/lib.rt:69:1
 returns-3 : tie.Need-returns-3
-returns-3 c = ?
+returns-3 c =
+    let a = c .before .before .before .before .before .before .before .before .before .before .before .before .before .before .before .before .before .before .before .before .before .before .before .before .before .before .before .before .before .args in
+    let b = buffers (now (a .first)) (now (a .second)) (now (a .numbers)) (now (a .places)) (now (a .modes)) in
+    command-given (now (a .payload)) (a .parsed) b (c .before .before .before .before .before .before .before .before .before .before .before .before .before .before .before .before .before .before .before .before .before .answer .given .1) (c .before .before .before .before .before .before .before .before .before .before .before .before .before .before .before .before .before .before .before .lists .ensures) (c .before .before .before .before .before .before .before .before .before .before .before .before .before .fill .ensures)
+    (rw (c .before .before .if1 .left) (c .refused .ensures ∙ ap (λ (k : ℕ). refusal 21 (some k)) (c .before .command-code .ensures)))
 
 pub list-parsed-spec : {M : Type 1} → statement M
 list-parsed-spec =

@@ -1,42 +1,41 @@
+-- `list_payload` meets its contract: the parser's result for the payload, with its lists.
+-- Assumes nothing.
 use borrow.Author.Needs.{needs}
+use denote.Ref.{now}
+use Rattle.felica_format.specs.Read.{readPayload}
+use Rattle.felica_lists.specs.Lists.{buffers}
+use Rattle.felica_lists.proofs.Give.{given-told}
 use Rattle.felica_lists.proofs.list_payload.Statement.{statement}
 use Rattle.felica_lists.proofs.list_payload.Tie as tie
-use Rattle.felica_lists.proofs.list_payload.Reads as reads
-use Rattle.felica_lists.proofs.list_payload.Lts as lts
-use Rattle.felica_lists.proofs.list_parsed.Reads as list-parsed-reads
-use Rattle.felica_parse.proofs.parse_payload.Reads as parse-payload-reads
 
--- src/lib.rt:48:9
 parse-payload-requires : tie.Need-parse-payload-requires
 parse-payload-requires c κs = search needs
 
--- src/lib.rt:49:5
 list-parsed-requires : tie.Need-list-parsed-requires
 list-parsed-requires c κs = search needs
 
--- src/lib.rt:38:1
 same-length : tie.Need-same-length
 same-length c = search needs
 
--- src/lib.rt:38:1
 same-length-2 : tie.Need-same-length-2
 same-length-2 c = search needs
 
--- src/lib.rt:38:1
 same-length-3 : tie.Need-same-length-3
 same-length-3 c = search needs
 
--- src/lib.rt:38:1
 same-length-4 : tie.Need-same-length-4
 same-length-4 c = search needs
 
--- src/lib.rt:38:1
 same-length-5 : tie.Need-same-length-5
 same-length-5 c = search needs
 
--- src/lib.rt:38:1
 returns : tie.Need-returns
-returns c = ?
+returns c =
+    let a = c .before .before .before .before .before .before .before .before .before .before .before .before .before .before .before .before .before .before .before .before .before .before .before .args in
+    let s = now (a .payload) in
+    let b = buffers (now (a .first)) (now (a .second)) (now (a .numbers)) (now (a .places)) (now (a .modes)) in
+    let p = c .before .before .before .before .before .before .before .before .before .before .before .before .before .before .before .before .parse-payload in
+    given-told s 1 (readPayload s) (p .result) _ b _ (p .ensures .0) (p .ensures .1) (p .ensures .2) (p .ensures .3) (c .before .before .before .before .before .before .before .before .before .before .list-parsed .ensures)
 
 pub list-payload-spec : {M : Type 1} → statement M
 list-payload-spec =
