@@ -1,3 +1,4 @@
 pub mod Typed
 pub mod Inside
 pub mod OneAccount
+pub mod NoLists

@@ -32,9 +32,7 @@ impl FelicaStandardCommand {
     {
         let none = Part { start: 0, count: 0 };
         match self {
-            Self::Polling { .. } => Lists::of(none, none, none),
             Self::RequestService { service_codes } => Lists::of(service_codes, none, none),
-            Self::RequestResponse => Lists::of(none, none, none),
             Self::ReadWithoutEncryption {
                 service_codes,
                 block_list,
@@ -44,34 +42,17 @@ impl FelicaStandardCommand {
                 block_list,
                 ..
             } => Lists::of(service_codes, none, block_list),
-            Self::SearchServiceCode { .. } => Lists::of(none, none, none),
-            Self::RequestSystemCode => Lists::of(none, none, none),
             Self::RequestBlockInformation { node_codes } => Lists::of(node_codes, none, none),
             Self::Authentication1 { areas, services } => Lists::of(areas, services, none),
-            Self::Authentication2 => Lists::of(none, none, none),
             Self::Read { block_list } => Lists::of(none, none, block_list),
             Self::Write { block_list, .. } => Lists::of(none, none, block_list),
             Self::ReadV2 { block_list } => Lists::of(none, none, block_list),
             Self::WriteV2 { block_list, .. } => Lists::of(none, none, block_list),
-            Self::RequestCodeList { .. } => Lists::of(none, none, none),
             Self::RequestBlockInformationEx { node_codes } => Lists::of(node_codes, none, none),
-            Self::SetParameter { .. } => Lists::of(none, none, none),
-            Self::GetContainerIssueInformation => Lists::of(none, none, none),
-            Self::GetAreaInformation { .. } => Lists::of(none, none, none),
             Self::GetNodeProperty { node_codes, .. } => Lists::of(node_codes, none, none),
-            Self::GetContainerProperty { .. } => Lists::of(none, none, none),
             Self::RequestServiceV2 { service_codes } => Lists::of(service_codes, none, none),
-            Self::GetSystemStatus => Lists::of(none, none, none),
-            Self::RequestProductInformation => Lists::of(none, none, none),
-            Self::RequestSpecificationVersion => Lists::of(none, none, none),
-            Self::ResetMode => Lists::of(none, none, none),
             Self::Authentication1V2 { nodes, .. } => Lists::of(nodes, none, none),
-            Self::Authentication2V2 => Lists::of(none, none, none),
-            Self::GetContainerId => Lists::of(none, none, none),
-            Self::RegisterIssueId { .. } => Lists::of(none, none, none),
-            Self::RegisterArea { .. } => Lists::of(none, none, none),
-            Self::RegisterService { .. } => Lists::of(none, none, none),
-            Self::ChangeSystemBlock => Lists::of(none, none, none),
+            _ => Lists::of(none, none, none),
         }
     }
 }
