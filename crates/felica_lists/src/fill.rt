@@ -66,10 +66,10 @@ fn fill_blocks(payload: &[u8], list: Part, numbers: &mut [u16], places: &mut [u8
     requires { ⌜ BlocksInside (now payload) list × (list .count ≤ length (now numbers)) × (list .count ≤ length (now places)) × (list .count ≤ length (now modes)) ⌝ }
     ensures { λ _. ⌜ (now (numbers .exit) ≡ front (numbersAt (now (payload .entry)) list) (now (numbers .entry))) × (now (places .exit) ≡ front (placesAt (now (payload .entry)) list) (now (places .entry))) × (now (modes .exit) ≡ front (modesAt (now (payload .entry)) list) (now (modes .entry))) ⌝ }
 {
-    let count = list.count;
+    let blocks = list.count;
     let mut at = list.start;
     let mut i: usize = 0;
-    while i < count {
+    while i < blocks {
         let cursor = Cursor { at: at };
         let taken = cursor.take_element(payload);
         // The parser has taken these elements, so that none is refused here.

@@ -23,15 +23,15 @@ use Rattle.felica_lists.proofs.fill.fill_blocks.Statement.{statement}
 use Rattle.felica_lists.proofs.fill.fill_blocks.Tie as tie
 
 abbrev Inv-loop : tie.InvT-loop
-Inv-loop payload numbers₀ places₀ modes₀ count at₀ i₀ numbers places modes at i =
-    (i ≤ count) × (at + elementsSize (count - i) (drop at payload) ≤ length payload)
+Inv-loop payload numbers₀ places₀ modes₀ blocks at₀ i₀ numbers places modes at i =
+    (i ≤ blocks) × (at + elementsSize (blocks - i) (drop at payload) ≤ length payload)
     × (length numbers ≡ length numbers₀) × (length places ≡ length places₀) × (length modes ≡ length modes₀)
-    × (sets numbers i (numbersAt payload (part at (count - i))) ≡ sets numbers₀ 0 (numbersAt payload (part at₀ count)))
-    × (sets places i (placesAt payload (part at (count - i))) ≡ sets places₀ 0 (placesAt payload (part at₀ count)))
-    × (sets modes i (modesAt payload (part at (count - i))) ≡ sets modes₀ 0 (modesAt payload (part at₀ count)))
+    × (sets numbers i (numbersAt payload (part at (blocks - i))) ≡ sets numbers₀ 0 (numbersAt payload (part at₀ blocks)))
+    × (sets places i (placesAt payload (part at (blocks - i))) ≡ sets places₀ 0 (placesAt payload (part at₀ blocks)))
+    × (sets modes i (modesAt payload (part at (blocks - i))) ≡ sets modes₀ 0 (modesAt payload (part at₀ blocks)))
 
 abbrev μ-loop : tie.MeasureT-loop
-μ-loop payload numbers₀ places₀ modes₀ count at₀ i₀ numbers places modes at i = count - i
+μ-loop payload numbers₀ places₀ modes₀ blocks at₀ i₀ numbers places modes at i = blocks - i
 
 loop-holds : tie.Need-loop-holds Inv-loop μ-loop
 loop-holds c = rw sub-zero (omega arith, c .before .before .before .before .pre .0, refl, refl, refl, refl, refl, refl)
