@@ -7,7 +7,7 @@ use mathlib.Core.List.{List}
 use mathlib.Core.Option.{some}
 use Rattle.felica_format.specs.Read.{Answer as Reading}
 use Rattle.felica_command.specs.Meaning.{fieldsOf, refusalIs, meaning, Canonical, refusal}
-use Rattle.felica_command.specs.Places.{placesIn, answerPlaces, placesOf, readPlaces, Inside}
+use Rattle.felica_command.specs.Places.{answerPlaces, placesOf, readPlaces, Inside}
 use Rattle.felica_command.specs.Lists.{listsIn}
 use Rattle.felica_command.specs.declared.command.FelicaStandardCommand.{FelicaStandardCommand}
 use Rattle.felica_command.specs.declared.command.Refusal.{Refusal}

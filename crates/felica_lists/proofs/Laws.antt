@@ -5,11 +5,11 @@ use Prim.Native.Nat.{ℕ, suc, _+_, _≤_}
 use native.Mathlib.Nat.{zero-add}
 use native.Mathlib.Numerals.{add-one}
 use native.Mathlib.Omega.{arith}
-use mathlib.Core.Path.{_≡_, refl, sym, ap, _∙_}
-use mathlib.Core.List.{List, [], _∷_, _++_, map}
+use mathlib.Core.Path.{_≡_, sym, ap, _∙_}
+use mathlib.Core.List.{List, [], _∷_, _++_}
 use lib.ListN.{length, getD, set, drop, length-drop}
 use lib.Seq.{sets, sets-eq, drop-drop}
-use Rattle.felica_format.specs.Basic.{Step, taken, refuse, bind, wordOf}
+use Rattle.felica_format.specs.Basic.{taken, refuse, bind, wordOf}
 use Rattle.felica_format.specs.Command.{Element}
 use Rattle.felica_format.specs.Read.{wordsOf, readElement, readEach}
 use Rattle.felica_format.proofs.Steps.{none-taken}

@@ -1,12 +1,10 @@
 -- The steps of the list reader: the lists of a command's parts, written where every buffer has room, and the result that goes with them.
 -- Assumes nothing.
-use mathlib.Core.Path.{_≡_}
 use Prim.Native.Nat.{ℕ, _+_, _*_, _≤_}
 use mathlib.Core.Bool.{Bool, true, false, cond}
 use mathlib.Core.List.{List, map}
 use mathlib.Core.Option.{some}
 use lib.ListN.{length, drop}
-use Rattle.felica_format.specs.Command.{Element}
 use Rattle.felica_command.specs.Meaning.{codesAt, elementsAt, fieldsOf, refusal}
 use Rattle.felica_command.specs.Places.{elementsSize}
 use Rattle.felica_command.specs.Lists.{listsIn}

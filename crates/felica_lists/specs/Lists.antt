@@ -1,7 +1,7 @@
 -- The list reader: what it answers, and what the five lent buffers hold then.
 -- Assumes nothing.
 use Prim.Native.Nat.{ℕ}
-use mathlib.Core.Bool.{Bool, cond}
+use mathlib.Core.Bool.{Bool, true, false}
 use mathlib.Core.List.{List, _++_}
 use mathlib.Core.Option.{some}
 use lib.ListN.{length, drop}
@@ -49,7 +49,12 @@ pub record Outcome : Type 0 where
 abbrev pub outcome : Reading → Buffers → Outcome
 outcome answer b = record { answer = answer; buffers = b }
 
--- "It parses first, then gives 21 exactly when a buffer is shorter than its list." A refusal touches no buffer.
+-- "It parses first, then gives 21 exactly when a buffer is shorter than its list."
+abbrev pub listedIf : Bool → Command → Buffers → Outcome
+listedIf true c b = outcome (gives c) (fronts (listsOf c) b)
+listedIf false c b = outcome (refused 21 (some (c .code))) b
+
+-- the outcome for what the bytes give and the buffers before the call
 abbrev pub listed : Reading → Buffers → Outcome
-listed (gives c) b = cond (fits (listsOf c) b) (outcome (gives c) (fronts (listsOf c) b)) (outcome (refused 21 (some (c .code))) b)
+listed (gives c) b = listedIf (fits (listsOf c) b) c b
 listed (refused n code) b = outcome (refused n code) b

@@ -1,6 +1,6 @@
 // The list reader: parses, and writes the lists of the command to five lent buffers: first codes, second codes, block numbers, service places and access modes.
 ghost use mathlib.Core.Path.{_≡_};
-ghost use lib.ListN.{length, drop};
+ghost use lib.ListN.{drop};
 ghost use Rattle.felica_format.specs.Read.{readFrame, readPayload, readSecure};
 ghost use Rattle.felica_command.specs.Meaning.{meaning, Canonical};
 ghost use Rattle.felica_command.specs.Places.{placesOf, readPlaces, Inside};

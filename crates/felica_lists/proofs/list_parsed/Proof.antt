@@ -1,13 +1,11 @@
 -- `list_parsed` meets its contract: a refusal goes on as it is, a command with its lists or as 21.
 -- Assumes nothing.
 use borrow.Author.Needs.{needs}
-use mathlib.Core.Path.{_≡_, sym, ap, _∙_}
-use mathlib.Core.Bool.{Bool, cond}
+use mathlib.Core.Path.{ap, _∙_}
 use mathlib.Core.Option.{some}
 use Prim.Native.Nat.{ℕ}
 use denote.Ref.{now}
 use Rattle.felica_command.specs.Meaning.{refusal}
-use Rattle.felica_command.specs.declared.command.Parsed.{Parsed}
 use Rattle.felica_lists.specs.Lists.{buffers}
 use Rattle.felica_lists.proofs.Give.{refused-given, lists-inside, command-given}
 use Rattle.felica_lists.proofs.list_parsed.Statement.{statement}

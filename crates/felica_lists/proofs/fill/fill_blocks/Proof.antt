@@ -3,7 +3,7 @@
 use borrow.Author.Needs.{needs}
 use mathlib.Core.Path.{_≡_, refl, ap, _∙_, subst}
 use mathlib.Core.List.{map}
-use Prim.Native.Nat.{ℕ, suc, _+_, _-_, _≤_}
+use Prim.Native.Nat.{suc, _+_, _-_, _≤_}
 use native.Mathlib.Nat.{sub-zero}
 use native.Mathlib.Omega.{arith}
 use denote.Ref.{now}
@@ -11,7 +11,7 @@ use lib.ListN.{length, drop, length-set, length-map}
 use lib.Seq.{sets}
 use Rattle.felica_format.specs.Command.{Element}
 use Rattle.felica_command.specs.Types.{elementIs}
-use Rattle.felica_command.specs.Meaning.{part, elementsAt}
+use Rattle.felica_command.specs.Meaning.{part}
 use Rattle.felica_command.specs.Places.{elementsSize}
 use Rattle.felica_command.proofs.Inside.{elements-counted}
 use Rattle.felica_cursor.specs.Steps.{elementTaken, ElementPlaced}
