@@ -11,7 +11,7 @@ use felica_cursor::answers::ElementTaken;
 use felica_cursor::cursor::Cursor;
 use felica_cursor::cursor::word_of;
 
-// Whether every buffer has room for its list. If one has none, nothing is written.
+// Writes all lists, or nothing and answers false where a buffer is shorter than its list. So every buffer is measured before one is written.
 pub(crate) fn fill(
     payload: &[u8],
     lists: Lists,

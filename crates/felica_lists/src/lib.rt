@@ -1,4 +1,5 @@
-// The list reader: parses, and writes the lists of the command to five lent buffers: first codes, second codes, block numbers, service places and access modes.
+// The list reader. It parses, then writes first codes, second codes, block numbers, service places and access modes to the front of five lent buffers. Where one
+// is shorter than its list, it gives 21 and writes nothing.
 ghost use mathlib.Core.Path.{_≡_};
 ghost use lib.ListN.{drop};
 ghost use Rattle.felica_format.specs.Read.{readFrame, readPayload, readSecure};
@@ -18,7 +19,7 @@ use felica_parse::parse_secure_payload;
 use felica_parse::payload_of;
 use fill::fill;
 
-// The lists of a frame's command.
+// Of a frame.
 pub fn list_frame(
     frame: &[u8],
     first: &mut [u16],
@@ -34,7 +35,7 @@ pub fn list_frame(
     list_parsed(payload, parsed, first, second, numbers, places, modes)
 }
 
-// The lists of a payload's command.
+// Of a payload.
 pub fn list_payload(
     payload: &[u8],
     first: &mut [u16],
@@ -49,7 +50,7 @@ pub fn list_payload(
     list_parsed(payload, parsed, first, second, numbers, places, modes)
 }
 
-// The lists of the command of a secure code with its payload.
+// Of a secure code with its decrypted payload.
 pub fn list_secure_payload(
     command_code: u8,
     payload: &[u8],
@@ -65,7 +66,7 @@ pub fn list_secure_payload(
     list_parsed(payload, parsed, first, second, numbers, places, modes)
 }
 
-// What the parser gave, with its lists written; or 21.
+// What the parser gave for the payload, with its lists written; or 21.
 fn list_parsed(
     payload: &[u8],
     parsed: Parsed,
