@@ -19,7 +19,7 @@ use felica_parse::parse_secure_payload;
 use felica_parse::payload_of;
 use fill::fill;
 
-// Of a frame.
+// A frame.
 pub fn list_frame(
     frame: &[u8],
     first: &mut [u16],
@@ -35,7 +35,7 @@ pub fn list_frame(
     list_parsed(payload, parsed, first, second, numbers, places, modes)
 }
 
-// Of a payload.
+// A payload.
 pub fn list_payload(
     payload: &[u8],
     first: &mut [u16],
@@ -50,7 +50,7 @@ pub fn list_payload(
     list_parsed(payload, parsed, first, second, numbers, places, modes)
 }
 
-// Of a secure code with its decrypted payload.
+// A secure code with its decrypted payload.
 pub fn list_secure_payload(
     command_code: u8,
     payload: &[u8],
