@@ -1,4 +1,2 @@
-pub mod Entries
-pub mod Rows
 pub mod Reading
 pub mod Counts

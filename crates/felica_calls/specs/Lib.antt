@@ -1,4 +1,2 @@
--- The lines of calls and answers: a list as text, the answer to a call, and what a line calls for.
-pub mod Entries
-pub mod Answer
+-- What a line calls for, and the line that says what is wrong with it.
 pub mod Call

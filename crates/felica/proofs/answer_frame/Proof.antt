@@ -5,7 +5,7 @@ use mathlib.Core.List.{List}
 use Prim.Native.Nat.{ℕ}
 use denote.Ref.{now}
 use Rattle.felica_text.specs.Put.{buffer, put}
-use Rattle.felica_calls.specs.Answer.{lineOf}
+use Rattle.felica_answers.specs.Answer.{lineOf}
 use Rattle.felica_calls.proofs.Reading.{drop-none, take-rest}
 use borrow.Author.Needs.{needs}
 use Rattle.felica.proofs.answer_frame.Statement.{statement}
