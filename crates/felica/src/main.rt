@@ -72,6 +72,9 @@ fn answer_call(line: &[u8], bytes: &mut [u8], out: &mut [u8], at: usize) -> usiz
         Call::Frame(count) => answer_frame(&bytes[..count], out, at),
         Call::Payload(count) => answer_payload(&bytes[..count], out, at),
         Call::Secure(code, count) => answer_secure(code, &bytes[..count], out, at),
+        Call::ListFrame(_, _) => put_fault(out, at, Fault::UnknownCall),
+        Call::ListPayload(_, _) => put_fault(out, at, Fault::UnknownCall),
+        Call::ListSecure(_, _, _) => put_fault(out, at, Fault::UnknownCall),
         Call::Wrong(fault) => put_fault(out, at, fault),
     }
 }

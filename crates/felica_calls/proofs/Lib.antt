@@ -1,2 +1,4 @@
 pub mod Reading
+pub mod Decimal
+pub mod Lending
 pub mod Counts

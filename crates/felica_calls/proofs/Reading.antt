@@ -10,9 +10,10 @@ use lib.ListN.{length, getD, take, drop, length-take, length-drop}
 use Rattle.felica_format.specs.Basic.{_and_}
 use Rattle.felica_format.proofs.Tests.{tests}
 use Rattle.felica_text.specs.Text.{digitOf, before}
-use Rattle.felica_calls.specs.Call.{valueOf, allDigits, byteOf, bytesOf, isDash, fieldOf, behindField}
+use Rattle.felica_calls.specs.Field.{fieldOf, behindField, nextField, behindNext, isByte}
+use Rattle.felica_calls.specs.Call.{valueOf, allDigits, byteOf, bytesOf}
 use Rattle.felica_calls.specs.Call.{Decoded, decoded, readBytes, readLast, lastIs}
-use Rattle.felica_calls.specs.Call.{readCommandCode, securePayload, readSecureCall, kindOf, callOf, readCall}
+use Rattle.felica_calls.specs.Call.{readCommandCode, securePayload, readSecureCall, kindOf, callOf, readParse}
 use Rattle.felica_calls.specs.declared.call.Kind.{Kind}
 use Rattle.felica_calls.specs.declared.call.Code.{Code}
 use Rattle.felica_calls.specs.declared.call.Code.the-variants.{Code as TheCode, Wrong as WrongCode}
@@ -86,15 +87,15 @@ take-before b (x ∷ xs) = split b x xs (eqb x b) refl (take-before b xs)
 pub before-within : (b : ℕ) (s : List ℕ) → length (before b s) ≤ length s
 before-within b s = omega (arith, length-take (length (before b s)) s, ap length (take-before b s))
 
-pub dash-other : (s : List ℕ) → (length s ≡ 1 → ⊥) → isDash s ≡ false
-dash-other [] h = refl
-dash-other (d ∷ []) h = absurd (h refl)
-dash-other (d ∷ e ∷ s) h = refl
+pub byte-other : (b : ℕ) (s : List ℕ) → (length s ≡ 1 → ⊥) → isByte b s ≡ false
+byte-other b [] h = refl
+byte-other b (d ∷ []) h = absurd (h refl)
+byte-other b (d ∷ e ∷ s) h = refl
 
-pub dash-one : (s : List ℕ) → length s ≡ 1 → isDash s ≡ eqb (getD s 0 0) 45
-dash-one [] h = absurd (omega arith)
-dash-one (d ∷ []) h = refl
-dash-one (d ∷ e ∷ s) h = absurd (omega arith)
+pub byte-one : (b : ℕ) (s : List ℕ) → length s ≡ 1 → isByte b s ≡ eqb (getD s 0 0) b
+byte-one b [] h = absurd (omega arith)
+byte-one b (d ∷ []) h = refl
+byte-one b (d ∷ e ∷ s) h = absurd (omega arith)
 
 pub kind-other : (s : List ℕ) → (length s ≡ 1 → ⊥) → kindOf s ≡ Unknown
 unfolding kindOf
@@ -109,12 +110,12 @@ kind-one (d ∷ []) h = refl
 kind-one (d ∷ e ∷ s) h = absurd (omega arith)
 
 pub call-kind : (line held : List ℕ) {kind : Kind} → (length line ≡ 0 → ⊥) → kindOf (fieldOf line) ≡ kind
-    → readCall line held ≡ callOf kind (behindField line) held
-unfolding readCall
+    → readParse line held ≡ callOf kind (behindField line) held
+unfolding readParse
 call-kind line held h e = rw (ne-eqb _ _ h, e)
 
-pub secure-code : (s held : List ℕ) {found : Code} → (length s ≡ 0 → ⊥) → readCommandCode (fieldOf (drop 1 s)) ≡ found
-    → readSecureCall s held ≡ securePayload found (behindField (drop 1 s)) held
+pub secure-code : (s held : List ℕ) {found : Code} → (length s ≡ 0 → ⊥) → readCommandCode (nextField s) ≡ found
+    → readSecureCall s held ≡ securePayload found (behindNext s) held
 unfolding readSecureCall
 secure-code s held h e = rw (ne-eqb _ _ h, e)
 

@@ -1,26 +1,31 @@
--- What a line says as a call: a name, then fields, each behind one space. The bytes of the last field go to a lent buffer.
+-- What a line says as a call: a name, then fields, each behind one space. The bytes of a call go to a lent buffer.
 -- Assumes nothing.
-use Prim.Native.Nat.{ℕ, _+_, _*_, _/_, _%_}
+use Prim.Native.Nat.{ℕ, _+_, _-_, _*_, _/_, _%_}
 use Prim.Native.Char.{code}
 use mathlib.Core.Bool.{Bool, true, false, not, cond}
 use mathlib.Core.List.{List, [], _∷_, _++_}
-use lib.ListN.{length, drop}
+use lib.ListN.{length, take, drop}
 use lib.Dec.{ltb, eqb}
 use Rattle.felica_format.specs.Basic.{_and_}
-use Rattle.felica_text.specs.Text.{text, digitOf, before}
+use Rattle.felica_text.specs.Text.{text, digitOf}
 use Rattle.felica_text.specs.declared.hex.Digit.{Digit}
 use Rattle.felica_text.specs.declared.hex.Digit.the-variants.{Value, NoDigit}
+use Rattle.felica_calls.specs.Field.{fieldOf, behindField, nextField, behindNext, isByte}
+use Rattle.felica_calls.specs.Sizes.{readSizes}
 use Rattle.felica_calls.specs.declared.fault.Fault.{Fault}
 use Rattle.felica_calls.specs.declared.fault.Fault.the-variants.{EmptyLine, LineTooLong, UnknownCall, MissingField, ExtraField}
-use Rattle.felica_calls.specs.declared.fault.Fault.the-variants.{CodeSize, NoDigit as NotADigit, OddDigits, TooManyBytes}
+use Rattle.felica_calls.specs.declared.fault.Fault.the-variants.{CodeSize, NoDigit as NotADigit, OddDigits, TooManyBytes, NoNumber, BufferTooLong}
 use Rattle.felica_calls.specs.declared.call.Kind.{Kind}
 use Rattle.felica_calls.specs.declared.call.Kind.the-variants.{Frame as OfFrame, Payload as OfPayload, Secure as OfSecure, Unknown}
 use Rattle.felica_calls.specs.declared.call.Bytes.{Bytes}
 use Rattle.felica_calls.specs.declared.call.Bytes.the-variants.{Count, Wrong as WrongBytes}
 use Rattle.felica_calls.specs.declared.call.Code.{Code}
 use Rattle.felica_calls.specs.declared.call.Code.the-variants.{Code as TheCode, Wrong as WrongCode}
+use Rattle.felica_calls.specs.declared.sizes.Sizes.{Sizes}
+use Rattle.felica_calls.specs.declared.sizes.SizesRead.{SizesRead}
+use Rattle.felica_calls.specs.declared.sizes.SizesRead.the-variants.{Sizes as TheSizes, Wrong as WrongSizes}
 use Rattle.felica_calls.specs.declared.call.Call.{Call}
-use Rattle.felica_calls.specs.declared.call.Call.the-variants.{Frame, Payload, Secure, Wrong}
+use Rattle.felica_calls.specs.declared.call.Call.the-variants.{Frame, Payload, Secure, ListFrame, ListPayload, ListSecure, Wrong}
 
 -- the line that says what is wrong with a call
 abbrev pub faultText : Fault → List ℕ
@@ -33,6 +38,8 @@ faultText CodeSize = text "BAD CALL: command code not of two digits"
 faultText NotADigit = text "BAD CALL: not a hexadecimal digit"
 faultText OddDigits = text "BAD CALL: odd number of hexadecimal digits"
 faultText TooManyBytes = text "BAD CALL: too many bytes"
+faultText NoNumber = text "BAD CALL: not a decimal number"
+faultText BufferTooLong = text "BAD CALL: buffer too long"
 
 -- hexadecimal digits as bytes; what is no digit counts as 0
 abbrev pub isDigit : Digit → Bool
@@ -55,13 +62,6 @@ bytesOf [] = []
 bytesOf (d ∷ []) = []
 bytesOf (high ∷ low ∷ ds) = byteOf high low ∷ bytesOf ds
 
--- the first field, and what follows it: nothing, or the space before the next field
-abbrev pub fieldOf : List ℕ → List ℕ
-fieldOf s = before (code " ") s
-
-abbrev pub behindField : List ℕ → List ℕ
-behindField s = drop (length (fieldOf s)) s
-
 -- an answer, with what the lent buffer holds
 pub record Decoded : Type 0 where
   pub answer : Bytes
@@ -78,15 +78,10 @@ abbrev pub called : Call → List ℕ → Called
 called call buffer = record { call = call; buffer = buffer }
 
 -- "`-` is empty"
-abbrev pub isDash : List ℕ → Bool
-isDash [] = false
-isDash (d ∷ []) = eqb d (code "-")
-isDash (d ∷ e ∷ ds) = false
-
 unfoldable pub readBytes : List ℕ → List ℕ → Decoded
 readBytes s buffer =
     cond (eqb (length s) 0) (decoded (WrongBytes MissingField) buffer)
-    (cond (isDash s) (decoded (Count 0) buffer)
+    (cond (isByte (code "-") s) (decoded (Count 0) buffer)
     (cond (not (allDigits s)) (decoded (WrongBytes NotADigit) buffer)
     (cond (eqb (length s % 2) 1) (decoded (WrongBytes OddDigits) buffer)
     (cond (ltb (length buffer) (length s / 2)) (decoded (WrongBytes TooManyBytes) buffer)
@@ -96,7 +91,7 @@ readBytes s buffer =
 unfoldable pub readLast : List ℕ → List ℕ → Decoded
 readLast s buffer =
     cond (eqb (length s) 0) (decoded (WrongBytes MissingField) buffer)
-    (cond (ltb (length (fieldOf (drop 1 s))) (length (drop 1 s))) (decoded (WrongBytes ExtraField) buffer)
+    (cond (ltb (length (nextField s)) (length (drop 1 s))) (decoded (WrongBytes ExtraField) buffer)
     (readBytes (drop 1 s) buffer))
 
 -- a command code in its two digits
@@ -121,7 +116,7 @@ securePayload (WrongCode fault) s buffer = called (Wrong fault) buffer
 unfoldable pub readSecureCall : List ℕ → List ℕ → Called
 readSecureCall s buffer =
     cond (eqb (length s) 0) (called (Wrong MissingField) buffer)
-    (securePayload (readCommandCode (fieldOf (drop 1 s))) (behindField (drop 1 s)) buffer)
+    (securePayload (readCommandCode (nextField s)) (behindNext s) buffer)
 
 -- the call that a name stands for
 unfoldable pub kindOf : List ℕ → Kind
@@ -135,14 +130,43 @@ callOf OfPayload s buffer = lastIs Payload (readLast s buffer)
 callOf OfSecure s buffer = readSecureCall s buffer
 callOf Unknown s buffer = called (Wrong UnknownCall) buffer
 
--- a line, and what the buffer for its bytes holds before and after
-unfoldable pub readCall : List ℕ → List ℕ → Called
-readCall line buffer =
+-- "frame, payload, secure code with payload", and what the buffer for the bytes holds before and after
+unfoldable pub readParse : List ℕ → List ℕ → Called
+readParse line buffer =
     cond (eqb (length line) 0) (called (Wrong EmptyLine) buffer) (callOf (kindOf (fieldOf line)) (behindField line) buffer)
+
+-- what follows the fields of such a call: two, or three where the first is S
+abbrev pub behindCall : List ℕ → List ℕ
+behindCall s = cond (isByte (code "S") (fieldOf s)) (behindNext (behindNext (behindField s))) (behindNext (behindField s))
+
+-- a call of the parser as one of the list reader, for buffers of the lengths z
+abbrev pub withSizes : Sizes → Call → Call
+withSizes z (Frame n) = ListFrame n z
+withSizes z (Payload n) = ListPayload n z
+withSizes z (Secure c n) = ListSecure c n z
+withSizes z (ListFrame n y) = ListFrame n z
+withSizes z (ListPayload n y) = ListPayload n z
+withSizes z (ListSecure c n y) = ListSecure c n z
+withSizes z (Wrong fault) = Wrong fault
+
+abbrev pub listCall : SizesRead → Called → List ℕ → Called
+listCall (TheSizes z) c buffer = called (withSizes z (c .call)) (c .buffer)
+listCall (WrongSizes fault) c buffer = called (Wrong fault) buffer
+
+-- "list reader with buffers of those lengths": the lengths are looked at first, then the call before them
+unfoldable pub readList : List ℕ → List ℕ → Called
+readList s buffer = listCall (readSizes (behindCall s)) (readParse (take (length s - length (behindCall s)) s) buffer) buffer
+
+-- a line
+unfoldable pub readCall : List ℕ → List ℕ → Called
+readCall line buffer = cond (isByte (code "L") (fieldOf line)) (readList (drop 1 (behindField line)) buffer) (readParse line buffer)
 
 -- the bytes of a call
 abbrev pub countOf : Call → ℕ
 countOf (Frame n) = n
 countOf (Payload n) = n
 countOf (Secure c n) = n
+countOf (ListFrame n z) = n
+countOf (ListPayload n z) = n
+countOf (ListSecure c n z) = n
 countOf (Wrong fault) = 0

@@ -1,11 +1,20 @@
-// A line as a call: a letter, then fields, each behind one space. The bytes of the last field go to a lent buffer.
+// A line as a call: a letter, then fields, each behind one space. The bytes of a call go to a lent buffer.
 ghost use mathlib.Core.Path.{_≡_};
-ghost use lib.ListN.{drop};
 ghost use Rattle.felica_text.specs.Text.{digitOf};
 ghost use Rattle.felica_text.specs.Put.{buffer, put};
-ghost use Rattle.felica_calls.specs.Call.{called, decoded, readCall, kindOf, lastIs, readLast, readSecureCall, readCommandCode};
-ghost use Rattle.felica_calls.specs.Call.{fieldOf, behindField, readBytes, isDash, bytesOf, allDigits, byteOf, valueOf};
+ghost use Rattle.felica_calls.specs.Call.{called, decoded, readCall, readList, behindCall, withSizes};
+ghost use Rattle.felica_calls.specs.Call.{readParse, kindOf, lastIs, readLast, readSecureCall, readCommandCode};
+ghost use Rattle.felica_calls.specs.Call.{readBytes, bytesOf, allDigits, byteOf, valueOf};
 use crate::fault::Fault;
+use crate::field::behind_field;
+use crate::field::behind_next;
+use crate::field::behind_space;
+use crate::field::field_of;
+use crate::field::is_byte;
+use crate::field::next_field;
+use crate::sizes::Sizes;
+use crate::sizes::SizesRead;
+use crate::sizes::read_sizes;
 use felica_text::find::find;
 use felica_text::hex::Digit;
 use felica_text::hex::digit_value;
@@ -17,6 +26,10 @@ pub enum Call {
     Payload(usize),
     // The secure code and its payload.
     Secure(u8, usize),
+    // The same for the list reader, with the lengths of its buffers.
+    ListFrame(usize, Sizes),
+    ListPayload(usize, Sizes),
+    ListSecure(u8, usize, Sizes),
     Wrong(Fault),
 }
 
@@ -40,6 +53,56 @@ enum Code {
 pub fn read_call(line: &[u8], bytes: &mut [u8]) -> Call
     ensures { λ r. ⌜ called r (now (bytes .exit)) ≡ readCall (now (line .entry)) (now (bytes .entry)) ⌝ }
 {
+    if is_byte(field_of(line), b'L') {
+        return read_list(behind_space(behind_field(line)), bytes);
+    }
+    read_parse(line, bytes)
+}
+
+// A call of the parser, then the lengths of the buffers for its lists. No byte is read before the lengths are seen to be right.
+fn read_list(text: &[u8], bytes: &mut [u8]) -> Call
+    ensures { λ r. ⌜ called r (now (bytes .exit)) ≡ readList (now (text .entry)) (now (bytes .entry)) ⌝ }
+{
+    let rest = behind_call(text);
+    let found = read_sizes(rest);
+    match found {
+        SizesRead::Sizes(sizes) => {
+            let end = text.len() - rest.len();
+            with_sizes(read_parse(&text[..end], bytes), sizes)
+        }
+        SizesRead::Wrong(fault) => Call::Wrong(fault),
+    }
+}
+
+// What follows a call of the parser, whose fields are two, or three where the first is `S`.
+fn behind_call(text: &[u8]) -> &[u8]
+    ensures { λ r. ⌜ now r ≡ behindCall (now (text .entry)) ⌝ }
+{
+    let behind_second = behind_next(behind_field(text));
+    if is_byte(field_of(text), b'S') {
+        return behind_next(behind_second);
+    }
+    behind_second
+}
+
+fn with_sizes(call: Call, sizes: Sizes) -> Call
+    ensures { λ r. ⌜ r ≡ withSizes sizes call ⌝ }
+{
+    match call {
+        Call::Frame(count) => Call::ListFrame(count, sizes),
+        Call::Payload(count) => Call::ListPayload(count, sizes),
+        Call::Secure(code, count) => Call::ListSecure(code, count, sizes),
+        Call::ListFrame(count, _) => Call::ListFrame(count, sizes),
+        Call::ListPayload(count, _) => Call::ListPayload(count, sizes),
+        Call::ListSecure(code, count, _) => Call::ListSecure(code, count, sizes),
+        Call::Wrong(fault) => Call::Wrong(fault),
+    }
+}
+
+// A call of the parser.
+fn read_parse(line: &[u8], bytes: &mut [u8]) -> Call
+    ensures { λ r. ⌜ called r (now (bytes .exit)) ≡ readParse (now (line .entry)) (now (bytes .entry)) ⌝ }
+{
     if line.len() == 0 {
         return Call::Wrong(Fault::EmptyLine);
     }
@@ -50,31 +113,6 @@ pub fn read_call(line: &[u8], bytes: &mut [u8]) -> Call
         Kind::Secure => read_secure(behind_field(line), bytes),
         Kind::Unknown => Call::Wrong(Fault::UnknownCall),
     }
-}
-
-// The first field.
-fn field_of(text: &[u8]) -> &[u8]
-    ensures { λ r. ⌜ now r ≡ fieldOf (now (text .entry)) ⌝ }
-{
-    let end = find(text, b' ');
-    &text[..end]
-}
-
-// What follows the first field: nothing, or a space and the next field.
-fn behind_field(text: &[u8]) -> &[u8]
-    ensures { λ r. ⌜ now r ≡ behindField (now (text .entry)) ⌝ }
-{
-    let end = find(text, b' ');
-    &text[end..]
-}
-
-fn behind_space(text: &[u8]) -> &[u8]
-    ensures { λ r. ⌜ now r ≡ drop 1 (now (text .entry)) ⌝ }
-{
-    if text.len() == 0 {
-        return text;
-    }
-    &text[1..]
 }
 
 fn kind_of(name: &[u8]) -> Kind
@@ -118,10 +156,9 @@ fn read_secure(rest: &[u8], bytes: &mut [u8]) -> Call
     if rest.len() == 0 {
         return Call::Wrong(Fault::MissingField);
     }
-    let fields = behind_space(rest);
-    let first = read_code(field_of(fields));
+    let first = read_code(next_field(rest));
     match first {
-        Code::Code(code) => read_secure_payload(code, behind_field(fields), bytes),
+        Code::Code(code) => read_secure_payload(code, behind_next(rest), bytes),
         Code::Wrong(fault) => Call::Wrong(fault),
     }
 }
@@ -173,7 +210,7 @@ fn read_bytes(field: &[u8], bytes: &mut [u8]) -> Bytes
     if field.len() == 0 {
         return Bytes::Wrong(Fault::MissingField);
     }
-    if is_dash(field) {
+    if is_byte(field, b'-') {
         return Bytes::Count(0);
     }
     if !all_digits(field) {
@@ -188,15 +225,6 @@ fn read_bytes(field: &[u8], bytes: &mut [u8]) -> Bytes
     }
     decode(field, bytes);
     Bytes::Count(count)
-}
-
-fn is_dash(field: &[u8]) -> bool
-    ensures { λ r. ⌜ r ≡ isDash (now (field .entry)) ⌝ }
-{
-    if field.len() != 1 {
-        return false;
-    }
-    field[0] == b'-'
 }
 
 fn decode(field: &[u8], bytes: &mut [u8]) -> usize

@@ -14,6 +14,8 @@ pub enum Fault {
     NoDigit,
     OddDigits,
     TooManyBytes,
+    NoNumber,
+    BufferTooLong,
 }
 
 pub fn put_fault(out: &mut [u8], at: usize, fault: Fault) -> usize
@@ -30,5 +32,7 @@ pub fn put_fault(out: &mut [u8], at: usize, fault: Fault) -> usize
         Fault::NoDigit => put_bytes(out, next, b"not a hexadecimal digit"),
         Fault::OddDigits => put_bytes(out, next, b"odd number of hexadecimal digits"),
         Fault::TooManyBytes => put_bytes(out, next, b"too many bytes"),
+        Fault::NoNumber => put_bytes(out, next, b"not a decimal number"),
+        Fault::BufferTooLong => put_bytes(out, next, b"buffer too long"),
     }
 }

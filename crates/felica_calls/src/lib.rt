@@ -1,3 +1,6 @@
 // Calls, a line each: a line is read as a call with its bytes, or as what is wrong with it.
 pub mod call;
 pub mod fault;
+mod field;
+mod number;
+pub mod sizes;

@@ -47,11 +47,29 @@ slice-aggregate-answer-secure c = sym (length-take-le _ _ (rw (c .before .before
 answer-secure-requires : tie.Need-answer-secure-requires
 answer-secure-requires c κs = search needs
 
-enum-known-call-4 : tie.Need-enum-known-call-4
-enum-known-call-4 c = search needs
+enum-told : tie.Need-enum-told
+enum-told c = search needs
 
 put-fault-requires : tie.Need-put-fault-requires
 put-fault-requires c κs = search needs
+
+enum-told-2 : tie.Need-enum-told-2
+enum-told-2 c = search needs
+
+put-fault-requires-2 : tie.Need-put-fault-requires-2
+put-fault-requires-2 c κs = search needs
+
+enum-told-3 : tie.Need-enum-told-3
+enum-told-3 c = search needs
+
+put-fault-requires-3 : tie.Need-put-fault-requires-3
+put-fault-requires-3 c κs = search needs
+
+enum-known-call-4 : tie.Need-enum-known-call-4
+enum-known-call-4 c = search needs
+
+put-fault-requires-4 : tie.Need-put-fault-requires-4
+put-fault-requires-4 c κs = search needs
 
 same-length : tie.Need-same-length
 same-length c = search needs
@@ -89,6 +107,33 @@ same-length-8 c = search needs
 returns-4 : tie.Need-returns-4
 returns-4 c = put-within _ _ _ (c .before .before .put-fault .ensures)
 
+same-length-9 : tie.Need-same-length-9
+same-length-9 c = search needs
+
+same-length-10 : tie.Need-same-length-10
+same-length-10 c = search needs
+
+returns-5 : tie.Need-returns-5
+returns-5 c = put-within _ _ _ (c .before .before .put-fault2 .ensures)
+
+same-length-11 : tie.Need-same-length-11
+same-length-11 c = search needs
+
+same-length-12 : tie.Need-same-length-12
+same-length-12 c = search needs
+
+returns-6 : tie.Need-returns-6
+returns-6 c = put-within _ _ _ (c .before .before .put-fault3 .ensures)
+
+same-length-13 : tie.Need-same-length-13
+same-length-13 c = search needs
+
+same-length-14 : tie.Need-same-length-14
+same-length-14 c = search needs
+
+returns-7 : tie.Need-returns-7
+returns-7 c = put-within _ _ _ (c .before .before .put-fault4 .ensures)
+
 pub answer-call-spec : {M : Type 1} → statement M
 answer-call-spec =
     tie.close
@@ -106,8 +151,14 @@ answer-call-spec =
     slice-reshare-prefix-answer-secure
     slice-aggregate-answer-secure
     answer-secure-requires
-    enum-known-call-4
+    enum-told
     put-fault-requires
+    enum-told-2
+    put-fault-requires-2
+    enum-told-3
+    put-fault-requires-3
+    enum-known-call-4
+    put-fault-requires-4
     same-length
     same-length-2
     returns
@@ -119,4 +170,13 @@ answer-call-spec =
     returns-3
     same-length-7
     same-length-8
-    returns-4)
+    returns-4
+    same-length-9
+    same-length-10
+    returns-5
+    same-length-11
+    same-length-12
+    returns-6
+    same-length-13
+    same-length-14
+    returns-7)

@@ -15,31 +15,31 @@ returns : tie.Need-returns
 unfolding readBytes
 returns c = rw (eq-eqb _ _ (c .if1 .taken))
 
-is-dash-requires : tie.Need-is-dash-requires
-is-dash-requires c κs = search needs
+is-byte-requires : tie.Need-is-byte-requires
+is-byte-requires c κs = search needs
 
 returns-2 : tie.Need-returns-2
 unfolding readBytes
-returns-2 c = rw (ne-eqb _ _ (c .before .before .if1 .left), sym (c .before .is-dash .ensures) ∙ c .if2 .taken)
+returns-2 c = rw (ne-eqb _ _ (c .before .before .if1 .left), sym (c .before .is-byte .ensures) ∙ c .if2 .taken)
 
 all-digits-requires : tie.Need-all-digits-requires
 all-digits-requires c κs = search needs
 
 returns-3 : tie.Need-returns-3
 unfolding readBytes
-returns-3 c = rw (ne-eqb _ _ (c .before .before .before .before .if1 .left), sym (c .before .before .before .is-dash .ensures) ∙ c .before .before .if2 .left, sym (c .before .all-digits .ensures) ∙ not-true _ (c .if3 .taken))
+returns-3 c = rw (ne-eqb _ _ (c .before .before .before .before .if1 .left), sym (c .before .before .before .is-byte .ensures) ∙ c .before .before .if2 .left, sym (c .before .all-digits .ensures) ∙ not-true _ (c .if3 .taken))
 
 returns-4 : tie.Need-returns-4
 unfolding readBytes
 returns-4 c = let odd : length (c .before .before .before .before .before .before .before .before .args .field .now) % 2 ≡ 1 = omega arith in
-    rw (ne-eqb _ _ (c .before .before .before .before .before .if1 .left), sym (c .before .before .before .before .is-dash .ensures) ∙ c .before .before .before .if2 .left, sym (c .before .before .all-digits .ensures) ∙ not-false _ (c .before .if3 .left), eq-eqb _ _ odd)
+    rw (ne-eqb _ _ (c .before .before .before .before .before .if1 .left), sym (c .before .before .before .before .is-byte .ensures) ∙ c .before .before .before .if2 .left, sym (c .before .before .all-digits .ensures) ∙ not-false _ (c .before .if3 .left), eq-eqb _ _ odd)
 
 returns-5 : tie.Need-returns-5
 unfolding readBytes
 returns-5 c = let even : (length (c .before .before .before .before .before .before .before .before .before .args .field .now) % 2 ≡ 1 → ⊥) = c .before .if4 .left in
     rw (
       ne-eqb _ _ (c .before .before .before .before .before .before .if1 .left),
-      sym (c .before .before .before .before .before .is-dash .ensures) ∙ c .before .before .before .before .if2 .left,
+      sym (c .before .before .before .before .before .is-byte .ensures) ∙ c .before .before .before .before .if2 .left,
       sym (c .before .before .before .all-digits .ensures) ∙ not-false _ (c .before .before .if3 .left),
       ne-eqb _ _ even,
       lt-ltb _ _ (c .if5 .taken),
@@ -56,7 +56,7 @@ unfolding readBytes
 returns-6 c = let even : (length (c .before .before .before .before .before .before .before .before .before .before .before .before .before .args .field .now) % 2 ≡ 1 → ⊥) = c .before .before .before .before .before .if4 .left in
     rw (
       ne-eqb _ _ (c .before .before .before .before .before .before .before .before .before .before .if1 .left),
-      sym (c .before .before .before .before .before .before .before .before .before .is-dash .ensures) ∙ c .before .before .before .before .before .before .before .before .if2 .left,
+      sym (c .before .before .before .before .before .before .before .before .before .is-byte .ensures) ∙ c .before .before .before .before .before .before .before .before .if2 .left,
       sym (c .before .before .before .before .before .before .before .all-digits .ensures) ∙ not-false _ (c .before .before .before .before .before .before .if3 .left),
       ne-eqb _ _ even,
       le-ltb _ _ (c .before .before .before .before .if5 .left),
@@ -68,7 +68,7 @@ read-bytes-spec =
     tie.close
     (tie.spec
     returns
-    is-dash-requires
+    is-byte-requires
     returns-2
     all-digits-requires
     returns-3

@@ -1,99 +1,57 @@
 -- `felica_calls::call::read_call` meets its contract: the name decides.
 -- Assumes nothing.
-use borrow.Author.Tests.{eq-eqb}
 use mathlib.Core.Path.{sym, ap, _∙_}
-use Rattle.felica_calls.specs.Call.{kindOf, readCall}
-use Rattle.felica_calls.proofs.Reading.{call-kind}
+use Rattle.felica_calls.specs.Field.{isByte}
+use Rattle.felica_calls.specs.Call.{readCall}
 use borrow.Author.Needs.{needs}
 use Rattle.felica_calls.proofs.call.read_call.Statement.{statement}
 use Rattle.felica_calls.proofs.call.read_call.Tie as tie
 
-returns : tie.Need-returns
-unfolding readCall
-returns c = rw (eq-eqb _ _ (c .if1 .taken))
-
 field-of-requires : tie.Need-field-of-requires
 field-of-requires c κs = search needs
 
-kind-of-requires : tie.Need-kind-of-requires
-kind-of-requires c κs = search needs
-
-enum-told : tie.Need-enum-told
-enum-told c = search needs
+is-byte-requires : tie.Need-is-byte-requires
+is-byte-requires c κs = search needs
 
 behind-field-requires : tie.Need-behind-field-requires
 behind-field-requires c κs = search needs
 
-read-frame-requires : tie.Need-read-frame-requires
-read-frame-requires c κs = search needs
+behind-space-requires : tie.Need-behind-space-requires
+behind-space-requires c κs = search needs
 
-enum-told-2 : tie.Need-enum-told-2
-enum-told-2 c = search needs
-
-behind-field-requires-2 : tie.Need-behind-field-requires-2
-behind-field-requires-2 c κs = search needs
-
-read-payload-requires : tie.Need-read-payload-requires
-read-payload-requires c κs = search needs
-
-enum-told-3 : tie.Need-enum-told-3
-enum-told-3 c = search needs
-
-behind-field-requires-3 : tie.Need-behind-field-requires-3
-behind-field-requires-3 c κs = search needs
-
-read-secure-requires : tie.Need-read-secure-requires
-read-secure-requires c κs = search needs
-
-enum-told-4 : tie.Need-enum-told-4
-enum-told-4 c = search needs
+read-list-requires : tie.Need-read-list-requires
+read-list-requires c κs = search needs
 
 same-length : tie.Need-same-length
 same-length c = search needs
 
-returns-2 : tie.Need-returns-2
-returns-2 c = let kind = ap kindOf (sym (c .before .before .before .before .before .before .before .before .field-of .ensures)) ∙ sym (c .before .before .before .before .before .before .before .kind-of .ensures) ∙ c .before .before .before .before .before .enum-told .given .1 in
-    rw (c .before .before .before .before .behind-field .ensures) at (c .before .before .read-frame .ensures) ∙ sym (call-kind _ _ (c .before .before .before .before .before .before .before .before .before .if1 .left) kind)
+returns : tie.Need-returns
+unfolding readCall
+returns c = let list = ap (isByte 76) (sym (c .before .before .before .before .before .before .before .before .field-of .ensures)) ∙ sym (c .before .before .before .before .before .before .before .is-byte .ensures) ∙ c .before .before .before .before .before .before .if1 .taken in
+    rw list (rw (c .before .before .before .before .behind-space .ensures, c .before .before .before .before .before .behind-field .ensures) at (c .before .before .read-list .ensures))
+
+read-parse-requires : tie.Need-read-parse-requires
+read-parse-requires c κs = search needs
 
 same-length-2 : tie.Need-same-length-2
 same-length-2 c = search needs
 
-returns-3 : tie.Need-returns-3
-returns-3 c = let kind = ap kindOf (sym (c .before .before .before .before .before .before .before .before .field-of .ensures)) ∙ sym (c .before .before .before .before .before .before .before .kind-of .ensures) ∙ c .before .before .before .before .before .enum-told2 .given .1 in
-    rw (c .before .before .before .before .behind-field2 .ensures) at (c .before .before .read-payload .ensures) ∙ sym (call-kind _ _ (c .before .before .before .before .before .before .before .before .before .if1 .left) kind)
-
-same-length-3 : tie.Need-same-length-3
-same-length-3 c = search needs
-
-returns-4 : tie.Need-returns-4
-returns-4 c = let kind = ap kindOf (sym (c .before .before .before .before .before .before .before .before .field-of .ensures)) ∙ sym (c .before .before .before .before .before .before .before .kind-of .ensures) ∙ c .before .before .before .before .before .enum-told3 .given .1 in
-    rw (c .before .before .before .before .behind-field3 .ensures) at (c .before .before .read-secure .ensures) ∙ sym (call-kind _ _ (c .before .before .before .before .before .before .before .before .before .if1 .left) kind)
-
-returns-5 : tie.Need-returns-5
-returns-5 c = let kind = ap kindOf (sym (c .before .before .before .field-of .ensures)) ∙ sym (c .before .before .kind-of .ensures) ∙ c .enum-told4 .given .1 in
-    sym (call-kind _ _ (c .before .before .before .before .if1 .left) kind)
+returns-2 : tie.Need-returns-2
+unfolding readCall
+returns-2 c = let other = ap (isByte 76) (sym (c .before .before .before .before .before .before .field-of .ensures)) ∙ sym (c .before .before .before .before .before .is-byte .ensures) ∙ c .before .before .before .before .if1 .left in
+    rw other (c .before .before .read-parse .ensures)
 
 pub read-call-spec : {M : Type 1} → statement M
 read-call-spec =
     tie.close
     (tie.spec
-    returns
     field-of-requires
-    kind-of-requires
-    enum-told
+    is-byte-requires
     behind-field-requires
-    read-frame-requires
-    enum-told-2
-    behind-field-requires-2
-    read-payload-requires
-    enum-told-3
-    behind-field-requires-3
-    read-secure-requires
-    enum-told-4
+    behind-space-requires
+    read-list-requires
     same-length
-    returns-2
+    returns
+    read-parse-requires
     same-length-2
-    returns-3
-    same-length-3
-    returns-4
-    returns-5)
+    returns-2)

@@ -92,6 +92,24 @@ slice-aggregate-put-bytes-10 c = search needs
 put-bytes-requires-10 : tie.Need-put-bytes-requires-10
 put-bytes-requires-10 c κs = search needs
 
+enum-told-10 : tie.Need-enum-told-10
+enum-told-10 c = search needs
+
+slice-aggregate-put-bytes-11 : tie.Need-slice-aggregate-put-bytes-11
+slice-aggregate-put-bytes-11 c = search needs
+
+put-bytes-requires-11 : tie.Need-put-bytes-requires-11
+put-bytes-requires-11 c κs = search needs
+
+enum-told-11 : tie.Need-enum-told-11
+enum-told-11 c = search needs
+
+slice-aggregate-put-bytes-12 : tie.Need-slice-aggregate-put-bytes-12
+slice-aggregate-put-bytes-12 c = search needs
+
+put-bytes-requires-12 : tie.Need-put-bytes-requires-12
+put-bytes-requires-12 c κs = search needs
+
 same-length : tie.Need-same-length
 same-length c = search needs
 
@@ -146,6 +164,18 @@ same-length-9 c = search needs
 returns-9 : tie.Need-returns-9
 returns-9 c = rw (c .before .before .before .before .before .enum-told9 .given .1) (put-then _ _ _ (c .before .before .before .before .before .before .before .before .before .put-bytes .ensures) (c .before .before .put-bytes10 .ensures))
 
+same-length-10 : tie.Need-same-length-10
+same-length-10 c = search needs
+
+returns-10 : tie.Need-returns-10
+returns-10 c = rw (c .before .before .before .before .before .enum-told10 .given .1) (put-then _ _ _ (c .before .before .before .before .before .before .before .before .before .put-bytes .ensures) (c .before .before .put-bytes11 .ensures))
+
+same-length-11 : tie.Need-same-length-11
+same-length-11 c = search needs
+
+returns-11 : tie.Need-returns-11
+returns-11 c = rw (c .before .before .before .before .before .enum-told11 .given .1) (put-then _ _ _ (c .before .before .before .before .before .before .before .before .before .put-bytes .ensures) (c .before .before .put-bytes12 .ensures))
+
 pub put-fault-spec : {M : Type 1} → statement M
 put-fault-spec =
     tie.close
@@ -179,6 +209,12 @@ put-fault-spec =
     enum-told-9
     slice-aggregate-put-bytes-10
     put-bytes-requires-10
+    enum-told-10
+    slice-aggregate-put-bytes-11
+    put-bytes-requires-11
+    enum-told-11
+    slice-aggregate-put-bytes-12
+    put-bytes-requires-12
     same-length
     returns
     same-length-2
@@ -196,4 +232,8 @@ put-fault-spec =
     same-length-8
     returns-8
     same-length-9
-    returns-9)
+    returns-9
+    same-length-10
+    returns-10
+    same-length-11
+    returns-11)

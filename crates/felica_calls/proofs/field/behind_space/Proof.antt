@@ -1,9 +1,9 @@
--- `felica_calls::call::behind_space` meets its contract.
+-- `felica_calls::field::behind_space` meets its contract.
 -- Assumes nothing.
 use Rattle.felica_calls.proofs.Reading.{take-rest, drop-none}
 use borrow.Author.Needs.{needs}
-use Rattle.felica_calls.proofs.call.behind_space.Statement.{statement}
-use Rattle.felica_calls.proofs.call.behind_space.Tie as tie
+use Rattle.felica_calls.proofs.field.behind_space.Statement.{statement}
+use Rattle.felica_calls.proofs.field.behind_space.Tie as tie
 
 returns : tie.Need-returns
 returns c = drop-none (c .before .args .text .now) (c .if1 .taken)

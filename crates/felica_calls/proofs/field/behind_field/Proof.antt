@@ -1,10 +1,10 @@
--- `felica_calls::call::behind_field` meets its contract.
+-- `felica_calls::field::behind_field` meets its contract.
 -- Assumes nothing.
 use native.Mathlib.Omega.{arith}
 use Rattle.felica_calls.proofs.Reading.{take-rest, before-within}
 use borrow.Author.Needs.{needs}
-use Rattle.felica_calls.proofs.call.behind_field.Statement.{statement}
-use Rattle.felica_calls.proofs.call.behind_field.Tie as tie
+use Rattle.felica_calls.proofs.field.behind_field.Statement.{statement}
+use Rattle.felica_calls.proofs.field.behind_field.Tie as tie
 
 find-requires : tie.Need-find-requires
 find-requires c κs = search needs

@@ -1,12 +1,12 @@
--- `felica_calls::call::field_of` meets its contract.
+-- `felica_calls::field::field_of` meets its contract.
 -- Assumes nothing.
 use native.Mathlib.Omega.{arith}
 use mathlib.Core.Path.{sym}
 use lib.Seq.{length-take-le}
 use Rattle.felica_calls.proofs.Reading.{take-before, before-within}
 use borrow.Author.Needs.{needs}
-use Rattle.felica_calls.proofs.call.field_of.Statement.{statement}
-use Rattle.felica_calls.proofs.call.field_of.Tie as tie
+use Rattle.felica_calls.proofs.field.field_of.Statement.{statement}
+use Rattle.felica_calls.proofs.field.field_of.Tie as tie
 
 find-requires : tie.Need-find-requires
 find-requires c κs = search needs
