@@ -1,13 +1,11 @@
 -- The line that answers a call: `OK cc field=value ...`, or `NO n cc`, `NO n --` where the refusal has no code.
 -- Assumes nothing.
 use Prim.Native.Nat.{ℕ}
-use Prim.Native.String.{String}
 use mathlib.Core.Bool.{Bool, true, false}
 use mathlib.Core.List.{List, [], _++_}
-use lib.ListN.{take, drop}
+use mathlib.Core.Option.{Option, none, some}
 use Rattle.felica_command.specs.Types.{propertyIndex, nodePropertyByte, encryptionByte, packetByte}
-use Rattle.felica_command.specs.Meaning.{bytesAt, fieldsOf}
-use Rattle.felica_command.specs.declared.command.Part.{Part}
+use Rattle.felica_command.specs.Meaning.{fieldsOf}
 use Rattle.felica_command.specs.declared.command.FelicaStandardCommand.{FelicaStandardCommand}
 use Rattle.felica_command.specs.declared.command.FelicaStandardCommand.the-variants.{Polling, RequestService, RequestResponse, ReadWithoutEncryption}
 use Rattle.felica_command.specs.declared.command.FelicaStandardCommand.the-variants.{WriteWithoutEncryption, SearchServiceCode, RequestSystemCode}
@@ -25,47 +23,9 @@ use Rattle.felica_command.specs.declared.command.Refusal.the-variants.{Number, 
 use Rattle.felica_command.specs.declared.command.Answer.{Answer}
 use Rattle.felica_command.specs.declared.command.Answer.the-variants.{Command as AnswerCommand, Refused as AnswerRefused}
 use Rattle.felica_command.specs.declared.command.Parsed.{Parsed}
-use Rattle.felica_text.specs.Text.{text, byteText, wordText, bytesText, decimalText}
-use Rattle.felica_answers.specs.Entries.{codesText, blocksText}
-
--- a field: its name and its value
-abbrev pub byteField : String → ℕ → List ℕ
-byteField name b = text name ++ byteText b
-
-abbrev pub wordField : String → ℕ → List ℕ
-wordField name w = text name ++ wordText w
-
-abbrev pub bytesField : String → List ℕ → List ℕ
-bytesField name bs = text name ++ bytesText bs
-
-abbrev pub idmField : List ℕ → List ℕ
-idmField idm = bytesField " idm=" idm
-
--- lists and bytes of the payload s
-abbrev pub firstField : List ℕ → Part → List ℕ
-firstField s p = text " first=" ++ codesText s p
-
-abbrev pub secondField : List ℕ → Part → List ℕ
-secondField s p = text " second=" ++ codesText s p
-
-abbrev pub blocksField : List ℕ → Part → List ℕ
-blocksField s p = text " blocks=" ++ blocksText s p
-
-abbrev pub dataField : List ℕ → Part → List ℕ
-dataField s p = bytesField " data=" (bytesAt s p)
-
-abbrev pub packageField : List ℕ → Part → List ℕ
-packageField s p = bytesField " package=" (bytesAt s p)
-
--- the 16 bytes beside a command: the challenge of 10 and 12; of 40 and 42; the issue id and the issue parameter of 80
-abbrev pub challenge8 : List ℕ → List ℕ
-challenge8 ch = bytesField " challenge=" (take 8 ch)
-
-abbrev pub challenge16 : List ℕ → List ℕ
-challenge16 ch = bytesField " challenge=" ch
-
-abbrev pub issueFields : List ℕ → List ℕ
-issueFields ch = bytesField " issue_id=" (take 8 ch) ++ bytesField " issue_parameter=" (drop 8 ch)
+use Rattle.felica_text.specs.Text.{text, byteText, decimalText}
+use Rattle.felica_fields.specs.Field.{byteField, wordField, idmField, firstField, secondField, blocksField, dataField, packageField}
+use Rattle.felica_fields.specs.Field.{challenge8, challenge16, issueFields}
 
 -- the fields of a command in the order of the layouts: the IDm or none, codes with what stands before them, blocks with their data,
 -- fixed fields, package
@@ -126,9 +86,13 @@ abbrev pub rowText : List ℕ → Row → List ℕ
 rowText idm r = idmText (r .idm) idm ++ (r .codes ++ (r .blocks ++ (r .fixed ++ r .issuePackage)))
 
 -- "A refusal gives its number and, from 4 up, the command code"
+abbrev pub refusedText : ℕ → Option ℕ → List ℕ
+refusedText n none = text "NO " ++ (decimalText n ++ text " --")
+refusedText n (some code) = text "NO " ++ (decimalText n ++ (text " " ++ byteText code))
+
 abbrev pub refusalText : Refusal → List ℕ
-refusalText (Number n) = text "NO " ++ (decimalText n ++ text " --")
-refusalText (OfCommand n code) = text "NO " ++ (decimalText n ++ (text " " ++ byteText code))
+refusalText (Number n) = refusedText n none
+refusalText (OfCommand n code) = refusedText n (some code)
 
 abbrev pub commandText : List ℕ → List ℕ → List ℕ → FelicaStandardCommand → List ℕ
 commandText s idm ch kind = text "OK " ++ (byteText (fieldsOf kind .code) ++ rowText idm (rowOf s ch kind))

@@ -1,3 +1,3 @@
--- The lines of answers: a list as text, and the line of a result.
-pub mod Entries
+-- The line of a result: Answer of the parser's, Lists of the list reader's.
 pub mod Answer
+pub mod Lists

@@ -27,7 +27,7 @@ pub fn put_answer(out: &mut [u8], at: usize, payload: &[u8], parsed: Parsed) -> 
     }
 }
 
-fn put_refusal(out: &mut [u8], at: usize, refusal: Refusal) -> usize
+pub fn put_refusal(out: &mut [u8], at: usize, refusal: Refusal) -> usize
     ensures { λ r. ⌜ buffer (now (out .exit)) r ≡ put (buffer (now (out .entry)) at) (refusalText refusal) ⌝ }
 {
     let next = put_bytes(out, at, b"NO ");

@@ -1,6 +1,4 @@
-// The line that answers a call: what a parse gives, written into a lent buffer.
+// The line that answers a call: what the parser or the list reader gives, written into a lent buffer.
 pub mod answer;
-mod entry;
-mod field;
 mod fields;
-mod list;
+pub mod lists;

@@ -7,9 +7,9 @@ use Prim.Native.Nat.{ℕ, zero, suc, _+_, _/_, _%_, _≤_, _<_}
 use native.Mathlib.Nat.{not-suc-le-zero}
 use native.Mathlib.Omega.{arith}
 use lib.Dec.{ltb}
-use lib.ListN.{length}
+use lib.ListN.{length, getD, drop}
 use borrow.Author.Tests.{lt-ltb, le-ltb, ltb-true, ltb-false}
-use Rattle.felica_text.specs.Text.{text, digitsText, bytesText, decimalDigits, decimalText}
+use Rattle.felica_text.specs.Text.{text, digitsText, bytesText, behindCommas, parted, decimalDigits, decimalText}
 
 pub bytes-none : (s : List ℕ) → length s ≡ 0 → bytesText s ≡ text "-"
 unfolding bytesText
@@ -20,6 +20,18 @@ pub bytes-some : (s : List ℕ) → (length s ≡ 0 → ⊥) → bytesText s ≡
 unfolding bytesText
 bytes-some [] h = absurd (h refl)
 bytes-some (b ∷ s) h = refl
+
+-- a list by its first entry
+pub parted-none : {A : Type 0} (entry : A → List ℕ) (s : List A) → length s ≡ 0 → parted entry s ≡ text "-"
+unfolding parted
+parted-none entry [] h = refl
+parted-none entry (a ∷ s) h = absurd (omega arith)
+
+pub parted-some : {A : Type 0} (entry : A → List ℕ) (s : List A) (d : A) → (length s ≡ 0 → ⊥)
+    → parted entry s ≡ entry (getD s 0 d) ++ behindCommas entry (drop 1 s)
+unfolding parted
+parted-some entry [] d h = absurd (h refl)
+parted-some entry (a ∷ s) d h = refl
 
 small : (k n : ℕ) → n < 10 → decimalDigits k n ≡ (48 + n) ∷ []
 unfolding decimalDigits

@@ -38,6 +38,21 @@ unfoldable pub bytesText : List ℕ → List ℕ
 bytesText [] = text "-"
 bytesText (b ∷ bs) = digitsText (b ∷ bs)
 
+-- a number below 16 in one digit
+abbrev pub nibbleText : ℕ → List ℕ
+nibbleText n = digitText (n % 16) ∷ []
+
+module _ {A : Type 0} (entry : A → List ℕ) where
+  -- entries, each behind a comma, whose code is 44
+  unfoldable pub behindCommas : List A → List ℕ
+  behindCommas [] = []
+  behindCommas (a ∷ rest) = 44 ∷ (entry a ++ behindCommas rest)
+
+  -- a list: entries parted by commas, and "`-` is empty"
+  unfoldable pub parted : List A → List ℕ
+  parted [] = text "-"
+  parted (a ∷ rest) = entry a ++ behindCommas rest
+
 -- a number's decimal digits, from the first; the count is at least the number
 unfoldable pub decimalDigits : ℕ → ℕ → List ℕ
 decimalDigits zero n = (48 + n) ∷ []

@@ -1,7 +1,7 @@
 // Text put into a lent buffer at a place. Each function answers the place behind; where the buffer is full the rest is left out.
 ghost use mathlib.Core.Path.{_≡_};
 ghost use mathlib.Core.List.{[], _∷_};
-ghost use Rattle.felica_text.specs.Text.{byteText, wordText, digitsText, bytesText, decimalText};
+ghost use Rattle.felica_text.specs.Text.{byteText, wordText, nibbleText, digitsText, bytesText, parted, decimalText};
 ghost use Rattle.felica_text.specs.Put.{buffer, put};
 use crate::hex::hex_digit;
 
@@ -62,6 +62,40 @@ fn put_hex_bytes(out: &mut [u8], at: usize, bytes: &[u8]) -> usize
     let mut i = 0;
     while i < bytes.len() {
         next = put_hex_byte(out, next, bytes[i]);
+        i += 1;
+    }
+    next
+}
+
+// Two-byte numbers in four digits each, parted by commas, and `-` for none.
+pub fn put_words(out: &mut [u8], at: usize, words: &[u16]) -> usize
+    ensures { λ r. ⌜ buffer (now (out .exit)) r ≡ put (buffer (now (out .entry)) at) (parted wordText (now (words .entry))) ⌝ }
+{
+    if words.len() == 0 {
+        return put_byte(out, at, b'-');
+    }
+    let mut next = put_hex_word(out, at, words[0]);
+    let mut i: usize = 1;
+    while i < words.len() {
+        next = put_byte(out, next, b',');
+        next = put_hex_word(out, next, words[i]);
+        i += 1;
+    }
+    next
+}
+
+// Numbers below 16 in one digit each, parted by commas, and `-` for none.
+pub fn put_nibbles(out: &mut [u8], at: usize, nibbles: &[u8]) -> usize
+    ensures { λ r. ⌜ buffer (now (out .exit)) r ≡ put (buffer (now (out .entry)) at) (parted nibbleText (now (nibbles .entry))) ⌝ }
+{
+    if nibbles.len() == 0 {
+        return put_byte(out, at, b'-');
+    }
+    let mut next = put_byte(out, at, hex_digit(nibbles[0]));
+    let mut i: usize = 1;
+    while i < nibbles.len() {
+        next = put_byte(out, next, b',');
+        next = put_byte(out, next, hex_digit(nibbles[i]));
         i += 1;
     }
     next

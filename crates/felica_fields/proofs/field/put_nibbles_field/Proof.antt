@@ -1,0 +1,22 @@
+-- `felica_fields::field::put_nibbles_field` meets its contract.
+-- Assumes nothing.
+use Rattle.felica_text.proofs.Laws.{put-then}
+use borrow.Author.Needs.{needs}
+use Rattle.felica_fields.proofs.field.put_nibbles_field.Statement.{statement}
+use Rattle.felica_fields.proofs.field.put_nibbles_field.Tie as tie
+
+put-bytes-requires : tie.Need-put-bytes-requires
+put-bytes-requires c κs = search needs
+
+put-nibbles-requires : tie.Need-put-nibbles-requires
+put-nibbles-requires c κs = search needs
+
+same-length : tie.Need-same-length
+same-length c = search needs
+
+returns : tie.Need-returns
+returns c = put-then _ _ _ (c .before .before .before .before .before .before .put-bytes .ensures) (c .before .before .put-nibbles .ensures)
+
+pub put-nibbles-field-spec : {M : Type 1} → statement M
+put-nibbles-field-spec =
+    tie.close (tie.spec put-bytes-requires put-nibbles-requires same-length returns)
