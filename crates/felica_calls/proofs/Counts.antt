@@ -6,29 +6,28 @@ use mathlib.Core.List.{List}
 use Prim.Native.Nat.{ℕ, _-_, _/_, _%_, _≤_, zero-le}
 use native.Mathlib.Omega.{arith}
 use lib.Dec.{ltb, eqb}
-use lib.ListN.{length, take, drop, length-append, length-drop}
+use lib.ListN.{length, drop, length-append, length-drop}
 use borrow.Author.Tests.{ltb-false}
 use Rattle.felica_calls.specs.Field.{fieldOf, behindField, nextField, behindNext, isByte}
 use Rattle.felica_calls.specs.Number.{allDecimal, decimalFrom, readNumber}
 use Rattle.felica_calls.specs.Sizes.{Lent, ifNumber, nextSize, readSizes}
-use Rattle.felica_calls.specs.Call.{allDigits, bytesOf, Decoded, decoded, Called, called, readBytes, readLast, lastIs}
-use Rattle.felica_calls.specs.Call.{readCommandCode, securePayload, readSecureCall, kindOf, callOf, readParse, countOf}
-use Rattle.felica_calls.specs.Call.{behindCall, withSizes, listCall, readList, readCall}
+use Rattle.felica_calls.specs.Bytes.{allDigits, bytesOf, Decoded, decoded, readBytes, readLast}
+use Rattle.felica_calls.specs.Source.{readSource, behindSource}
+use Rattle.felica_calls.specs.Call.{Called, called, withBytes, parseCall, listOf, listCall, readCall, countOf}
 use Rattle.felica_calls.specs.declared.fault.Fault.{Fault}
-use Rattle.felica_calls.specs.declared.fault.Fault.the-variants.{ExtraField}
+use Rattle.felica_calls.specs.declared.fault.Fault.the-variants.{EmptyLine, ExtraField}
 use Rattle.felica_calls.specs.declared.number.Number.{Number}
 use Rattle.felica_calls.specs.declared.number.Number.the-variants.{Number as TheNumber, Wrong as WrongNumber}
 use Rattle.felica_calls.specs.declared.sizes.Sizes.{Sizes}
 use Rattle.felica_calls.specs.declared.sizes.SizesRead.{SizesRead}
 use Rattle.felica_calls.specs.declared.sizes.SizesRead.the-variants.{Sizes as TheSizes, Wrong as WrongSizes}
-use Rattle.felica_calls.specs.declared.call.Kind.{Kind}
-use Rattle.felica_calls.specs.declared.call.Kind.the-variants.{Frame as OfFrame, Payload as OfPayload, Secure as OfSecure, Unknown}
-use Rattle.felica_calls.specs.declared.call.Bytes.{Bytes}
-use Rattle.felica_calls.specs.declared.call.Bytes.the-variants.{Count, Wrong as WrongBytes}
-use Rattle.felica_calls.specs.declared.call.Code.{Code}
-use Rattle.felica_calls.specs.declared.call.Code.the-variants.{Code as TheCode, Wrong as WrongCode}
+use Rattle.felica_calls.specs.declared.source.Source.{Source}
+use Rattle.felica_calls.specs.declared.source.SourceRead.{SourceRead}
+use Rattle.felica_calls.specs.declared.source.SourceRead.the-variants.{Source as TheSource, Wrong as WrongSource}
+use Rattle.felica_calls.specs.declared.bytes.Bytes.{Bytes}
+use Rattle.felica_calls.specs.declared.bytes.Bytes.the-variants.{Count, Wrong as WrongBytes}
 use Rattle.felica_calls.specs.declared.call.Call.{Call}
-use Rattle.felica_calls.specs.declared.call.Call.the-variants.{Frame, Payload, Secure, ListFrame, ListPayload, ListSecure, Wrong}
+use Rattle.felica_calls.specs.declared.call.Call.the-variants.{Parse, List as ListCall, Wrong}
 use Rattle.felica_calls.proofs.Reading.{length-bytes}
 
 -- a number is at most what was asked for
@@ -99,17 +98,12 @@ bytes-fit s held =
 last-fit : (s held : List ℕ) → Fit (readLast s held)
 unfolding readLast
 last-fit s held =
-    either (eqb (length s) 0) _ _ (zero-le) λ a.
     either (ltb (length (nextField s)) (length (drop 1 s))) _ _ (zero-le) λ b.
     bytes-fit (drop 1 s) held
 
 abbrev pub CallLends : Call → Type 0
-CallLends (Frame n) = Unit
-CallLends (Payload n) = Unit
-CallLends (Secure c n) = Unit
-CallLends (ListFrame n z) = Lent z
-CallLends (ListPayload n z) = Lent z
-CallLends (ListSecure c n z) = Lent z
+CallLends (Parse source n) = Unit
+CallLends (ListCall source n z) = Lent z
 CallLends (Wrong fault) = Unit
 
 record Fits (c : Called) : Type 0 where
@@ -120,48 +114,36 @@ either-call : (test : Bool) (d e : Called) → Fits d → Fits e → Fits (cond 
 either-call true d e p q = p
 either-call false d e p q = q
 
-call-last : (make : ℕ → Call) → ((n : ℕ) → countOf (make n) ≡ n) → ((n : ℕ) → CallLends (make n)) → (answer : Bytes) (held : List ℕ) → Fit (decoded answer held)
-    → Fits (lastIs make (decoded answer held))
-call-last make same lends (Count n) held h = record { count = rw (same n) h; lends = lends n }
-call-last make same lends (WrongBytes fault) held h = record { count = zero-le; lends = tt }
+wrong-fits : (fault : Fault) (held : List ℕ) → Fits (called (Wrong fault) held)
+wrong-fits fault held = record { count = zero-le; lends = tt }
 
-secure-fits : (found : Code) (s held : List ℕ) → Fits (securePayload found s held)
-secure-fits (TheCode c) s held = call-last (Secure c) (λ n. refl) (λ n. tt) (readLast s held .answer) (readLast s held .buffer) (last-fit s held)
-secure-fits (WrongCode fault) s held = record { count = zero-le; lends = tt }
+bytes-call : (make : ℕ → Call) → ((n : ℕ) → countOf (make n) ≡ n) → ((n : ℕ) → CallLends (make n)) → (answer : Bytes) (held : List ℕ) → Fit (decoded answer held)
+    → Fits (withBytes make (decoded answer held))
+bytes-call make same lends (Count n) held h = record { count = rw (same n) h; lends = lends n }
+bytes-call make same lends (WrongBytes fault) held h = wrong-fits fault held
 
-kind-fits : (kind : Kind) (s held : List ℕ) → Fits (callOf kind s held)
-unfolding readSecureCall
-kind-fits OfFrame s held = call-last Frame (λ n. refl) (λ n. tt) (readLast s held .answer) (readLast s held .buffer) (last-fit s held)
-kind-fits OfPayload s held = call-last Payload (λ n. refl) (λ n. tt) (readLast s held .answer) (readLast s held .buffer) (last-fit s held)
-kind-fits OfSecure s held =
-    either-call (eqb (length s) 0) _ _ (record { count = zero-le; lends = tt }) (secure-fits (readCommandCode (nextField s)) (behindNext s) held)
-kind-fits Unknown s held = record { count = zero-le; lends = tt }
+parse-fits : (found : SourceRead) (s held : List ℕ) → Fits (parseCall found s held)
+parse-fits (TheSource source) s held =
+    let d = readLast (behindSource source s) held in
+    bytes-call (Parse source) (λ n. refl) (λ n. tt) (d .answer) (d .buffer) (last-fit (behindSource source s) held)
+parse-fits (WrongSource fault) s held = wrong-fits fault held
 
-parse-fits : (line held : List ℕ) → Fits (readParse line held)
-unfolding readParse
-parse-fits line held =
-    either-call (eqb (length line) 0) _ _ (record { count = zero-le; lends = tt }) (kind-fits (kindOf (fieldOf line)) (behindField line) held)
+sized-fits : (source : Source) (found : SizesRead) (s held : List ℕ) → AllBelow found → Fits (listOf source found s held)
+sized-fits source (TheSizes z) s held l =
+    let d = readBytes (nextField s) held in
+    bytes-call (λ n. ListCall source n z) (λ n. refl) (λ n. l) (d .answer) (d .buffer) (bytes-fit (nextField s) held)
+sized-fits source (WrongSizes fault) s held l = wrong-fits fault held
 
-lending : (z : Sizes) (call : Call) (held : List ℕ) → Lent z → countOf call ≤ length held → Fits (called (withSizes z call) held)
-lending z (Frame n) held l h = record { count = h; lends = l }
-lending z (Payload n) held l h = record { count = h; lends = l }
-lending z (Secure c n) held l h = record { count = h; lends = l }
-lending z (ListFrame n y) held l h = record { count = h; lends = l }
-lending z (ListPayload n y) held l h = record { count = h; lends = l }
-lending z (ListSecure c n y) held l h = record { count = h; lends = l }
-lending z (Wrong fault) held l h = record { count = zero-le; lends = tt }
-
-list-fits : (found : SizesRead) (c : Called) (held : List ℕ) → AllBelow found → Fits c → Fits (listCall found c held)
-list-fits (TheSizes z) c held l h = lending z (c .call) (c .buffer) l (h .count)
-list-fits (WrongSizes fault) c held l h = record { count = zero-le; lends = tt }
+list-fits : (found : SourceRead) (s held : List ℕ) → Fits (listCall found s held)
+list-fits (TheSource source) s held =
+    sized-fits source (readSizes (behindNext (behindSource source s))) (behindSource source s) held (sizes-below (behindNext (behindSource source s)))
+list-fits (WrongSource fault) s held = wrong-fits fault held
 
 call-fits : (line held : List ℕ) → Fits (readCall line held)
-unfolding readCall readList
+unfolding readCall
 call-fits line held =
-    let s = drop 1 (behindField line) in
-    either-call (isByte 76 (fieldOf line)) _ _
-    (list-fits (readSizes (behindCall s)) _ held (sizes-below (behindCall s)) (parse-fits (take (length s - length (behindCall s)) s) held))
-    (parse-fits line held)
+    either-call (eqb (length line) 0) _ _ (wrong-fits EmptyLine held)
+    (either-call (isByte 76 (fieldOf line)) _ _ (list-fits (readSource (drop 1 (behindField line))) (drop 1 (behindField line)) held) (parse-fits (readSource line) line held))
 
 module _ (line held : List ℕ) {call : Call} {m : List ℕ} (e : called call m ≡ readCall line held) where
   pub count-within : countOf call ≤ length m

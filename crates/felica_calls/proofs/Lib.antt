@@ -1,4 +1,5 @@
 pub mod Reading
 pub mod Decimal
 pub mod Lending
+pub mod Calls
 pub mod Counts

@@ -1,6 +1,6 @@
 -- Digits and bytes on a walk along a field, and the parts of a line.
 -- Assumes nothing.
-use mathlib.Core.Path.{_≡_, refl, sym, ap, _∙_}
+use mathlib.Core.Path.{_≡_, refl, ap, _∙_}
 use mathlib.Core.Bool.{Bool, true, false, cond}
 use mathlib.Core.List.{List, [], _∷_, _++_}
 use Prim.Native.Nat.{ℕ, _+_, _-_, _*_, _/_, _≤_, _<_}
@@ -10,22 +10,16 @@ use lib.ListN.{length, getD, take, drop, length-take, length-drop}
 use Rattle.felica_format.specs.Basic.{_and_}
 use Rattle.felica_format.proofs.Tests.{tests}
 use Rattle.felica_text.specs.Text.{digitOf, before}
-use Rattle.felica_calls.specs.Field.{fieldOf, behindField, nextField, behindNext, isByte}
-use Rattle.felica_calls.specs.Call.{valueOf, allDigits, byteOf, bytesOf}
-use Rattle.felica_calls.specs.Call.{Decoded, decoded, readBytes, readLast, lastIs}
-use Rattle.felica_calls.specs.Call.{readCommandCode, securePayload, readSecureCall, kindOf, callOf, readParse}
-use Rattle.felica_calls.specs.declared.call.Kind.{Kind}
-use Rattle.felica_calls.specs.declared.call.Code.{Code}
-use Rattle.felica_calls.specs.declared.call.Code.the-variants.{Code as TheCode, Wrong as WrongCode}
+use Rattle.felica_calls.specs.Field.{isByte}
+use Rattle.felica_calls.specs.Bytes.{valueOf, allDigits, byteOf, bytesOf, decoded, readBytes, readLast}
+use Rattle.felica_calls.specs.Source.{readCommandCode}
+use Rattle.felica_calls.specs.declared.source.Code.the-variants.{Code as TheCode, Wrong as WrongCode}
 use Rattle.felica_calls.specs.declared.fault.Fault.the-variants.{MissingField, ExtraField, CodeSize, NoDigit as NotADigit}
-use Rattle.felica_calls.specs.declared.call.Call.{Call}
-use Rattle.felica_calls.specs.declared.call.Bytes.{Bytes}
-use Rattle.felica_calls.specs.declared.call.Bytes.the-variants.{Wrong as WrongBytes}
+use Rattle.felica_calls.specs.declared.bytes.Bytes.the-variants.{Wrong as WrongBytes}
 use Rattle.felica_text.specs.Put.{buffer, put}
 use lib.Seq.{take-all}
-use borrow.Author.Tests.{lt-ltb, le-ltb, ne-eqb}
+use borrow.Author.Tests.{lt-ltb, le-ltb}
 use Rattle.felica_text.specs.declared.hex.Digit.the-variants.{Value, NoDigit}
-use Rattle.felica_calls.specs.declared.call.Kind.the-variants.{Unknown}
 use Rattle.felica_text.proofs.Laws.{drop-next, put-front}
 
 -- a digit's value is below 16
@@ -97,28 +91,6 @@ byte-one b [] h = absurd (omega arith)
 byte-one b (d ∷ []) h = refl
 byte-one b (d ∷ e ∷ s) h = absurd (omega arith)
 
-pub kind-other : (s : List ℕ) → (length s ≡ 1 → ⊥) → kindOf s ≡ Unknown
-unfolding kindOf
-kind-other [] h = refl
-kind-other (d ∷ []) h = absurd (h refl)
-kind-other (d ∷ e ∷ s) h = refl
-
-pub kind-one : (s : List ℕ) → length s ≡ 1 → kindOf s ≡ kindOf (getD s 0 0 ∷ [])
-unfolding kindOf
-kind-one [] h = absurd (omega arith)
-kind-one (d ∷ []) h = refl
-kind-one (d ∷ e ∷ s) h = absurd (omega arith)
-
-pub call-kind : (line held : List ℕ) {kind : Kind} → (length line ≡ 0 → ⊥) → kindOf (fieldOf line) ≡ kind
-    → readParse line held ≡ callOf kind (behindField line) held
-unfolding readParse
-call-kind line held h e = rw (ne-eqb _ _ h, e)
-
-pub secure-code : (s held : List ℕ) {found : Code} → (length s ≡ 0 → ⊥) → readCommandCode (nextField s) ≡ found
-    → readSecureCall s held ≡ securePayload found (behindNext s) held
-unfolding readSecureCall
-secure-code s held h e = rw (ne-eqb _ _ h, e)
-
 -- a part that reaches to the end
 pub take-rest : (n : ℕ) (s : List ℕ) → take (length s - n) (drop n s) ≡ drop n s
 take-rest n s = take-all (length s - n) (drop n s) (omega (arith, length-drop n s))
@@ -154,15 +126,11 @@ decoded-front s l h e =
     ap (λ b. b .bytes) (e ∙ put-front (bytesOf s) l (omega (arith, length-bytes s))) ∙ ap (λ n. bytesOf s ++ drop n l) (length-bytes s)
 
 -- the last field f, of which n bytes stand before a space
-module _ (s held f : List ℕ) {n : ℕ} (some : length s ≡ 0 → ⊥) (is : f ≡ drop 1 s) (found : n ≡ length (before 32 f)) where
+module _ (s held f : List ℕ) {n : ℕ} (is : f ≡ drop 1 s) (found : n ≡ length (before 32 f)) where
   pub last-extra : n < length f → readLast s held ≡ decoded (WrongBytes ExtraField) held
   unfolding readLast
-  last-extra h = rw (ne-eqb _ _ some, lt-ltb _ _ (rw is at (rw found at h)))
+  last-extra h = rw (lt-ltb _ _ (rw is at (rw found at h)))
 
   pub last-field : length f ≤ n → readLast s held ≡ readBytes f held
   unfolding readLast
-  last-field h = rw (ne-eqb _ _ some, le-ltb _ _ (rw is at (rw found at h)), ← is)
-
-pub last-is : (make : ℕ → Call) {answer found : Bytes} {held : List ℕ} {d : Decoded} → answer ≡ found → decoded answer held ≡ d
-    → lastIs make (decoded found held) ≡ lastIs make d
-last-is make {held = held} e d = ap (λ a. lastIs make (decoded a held)) (sym e) ∙ ap (lastIs make) d
+  last-field h = rw (le-ltb _ _ (rw is at (rw found at h)), ← is)

@@ -1,11 +1,20 @@
--- `felica_calls::call::read_call` meets its contract: the name decides.
+-- `felica_calls::call::read_call` meets its contract: L calls the list reader, all else the parser.
 -- Assumes nothing.
+use borrow.Author.Tests.{eq-eqb}
 use mathlib.Core.Path.{sym, ap, _∙_}
+use denote.Ref.{now}
+use lib.ListN.{drop}
 use Rattle.felica_calls.specs.Field.{isByte}
-use Rattle.felica_calls.specs.Call.{readCall}
+use Rattle.felica_calls.specs.Source.{readSource}
+use Rattle.felica_calls.specs.Call.{listCall, readCall}
+use Rattle.felica_calls.proofs.Calls.{line-list, line-parse}
 use borrow.Author.Needs.{needs}
 use Rattle.felica_calls.proofs.call.read_call.Statement.{statement}
 use Rattle.felica_calls.proofs.call.read_call.Tie as tie
+
+returns : tie.Need-returns
+unfolding readCall
+returns c = rw (eq-eqb _ _ (c .if1 .taken))
 
 field-of-requires : tie.Need-field-of-requires
 field-of-requires c κs = search needs
@@ -25,10 +34,11 @@ read-list-requires c κs = search needs
 same-length : tie.Need-same-length
 same-length c = search needs
 
-returns : tie.Need-returns
-unfolding readCall
-returns c = let list = ap (isByte 76) (sym (c .before .before .before .before .before .before .before .before .field-of .ensures)) ∙ sym (c .before .before .before .before .before .before .before .is-byte .ensures) ∙ c .before .before .before .before .before .before .if1 .taken in
-    rw list (rw (c .before .before .before .before .behind-space .ensures, c .before .before .before .before .before .behind-field .ensures) at (c .before .before .read-list .ensures))
+returns-2 : tie.Need-returns-2
+returns-2 c = let a = c .before .before .before .before .before .before .before .before .before .before .before .before .args in
+    let name = ap (isByte 76) (sym (c .before .before .before .before .before .before .before .before .field-of .ensures)) ∙ sym (c .before .before .before .before .before .before .before .is-byte .ensures) ∙ c .before .before .before .before .before .before .if2 .taken in
+    let text = c .before .before .before .before .behind-space .ensures ∙ ap (drop 1) (c .before .before .before .before .before .behind-field .ensures) in
+    c .before .before .read-list .ensures ∙ ap (λ t. listCall (readSource t) t (now (a .bytes))) text ∙ sym (line-list _ _ (c .before .before .before .before .before .before .before .before .before .if1 .left) name)
 
 read-parse-requires : tie.Need-read-parse-requires
 read-parse-requires c κs = search needs
@@ -36,22 +46,22 @@ read-parse-requires c κs = search needs
 same-length-2 : tie.Need-same-length-2
 same-length-2 c = search needs
 
-returns-2 : tie.Need-returns-2
-unfolding readCall
-returns-2 c = let other = ap (isByte 76) (sym (c .before .before .before .before .before .before .field-of .ensures)) ∙ sym (c .before .before .before .before .before .is-byte .ensures) ∙ c .before .before .before .before .if1 .left in
-    rw other (c .before .before .read-parse .ensures)
+returns-3 : tie.Need-returns-3
+returns-3 c = let name = ap (isByte 76) (sym (c .before .before .before .before .before .before .field-of .ensures)) ∙ sym (c .before .before .before .before .before .is-byte .ensures) ∙ c .before .before .before .before .if2 .left in
+    c .before .before .read-parse .ensures ∙ sym (line-parse _ _ (c .before .before .before .before .before .before .before .if1 .left) name)
 
 pub read-call-spec : {M : Type 1} → statement M
 read-call-spec =
     tie.close
     (tie.spec
+    returns
     field-of-requires
     is-byte-requires
     behind-field-requires
     behind-space-requires
     read-list-requires
     same-length
-    returns
+    returns-2
     read-parse-requires
     same-length-2
-    returns-2)
+    returns-3)

@@ -1,15 +1,15 @@
--- `felica_calls::call::read_bytes` meets its contract.
+-- `felica_calls::bytes::read_bytes` meets its contract.
 -- Assumes nothing.
 use borrow.Author.Tests.{lt-ltb, le-ltb, eq-eqb, ne-eqb, not-true, not-false}
 use native.Mathlib.Omega.{arith}
 use Prim.Native.Nat.{_%_}
 use mathlib.Core.Path.{_≡_, sym, ap, _∙_}
 use lib.ListN.{length}
-use Rattle.felica_calls.specs.Call.{decoded, readBytes}
+use Rattle.felica_calls.specs.Bytes.{decoded, readBytes}
 use Rattle.felica_calls.proofs.Reading.{decoded-front}
 use borrow.Author.Needs.{needs}
-use Rattle.felica_calls.proofs.call.read_bytes.Statement.{statement}
-use Rattle.felica_calls.proofs.call.read_bytes.Tie as tie
+use Rattle.felica_calls.proofs.bytes.read_bytes.Statement.{statement}
+use Rattle.felica_calls.proofs.bytes.read_bytes.Tie as tie
 
 returns : tie.Need-returns
 unfolding readBytes

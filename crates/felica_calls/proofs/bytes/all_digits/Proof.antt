@@ -1,14 +1,14 @@
--- `felica_calls::call::all_digits` meets its contract: what is left to look at decides.
+-- `felica_calls::bytes::all_digits` meets its contract: what is left to look at decides.
 -- Assumes nothing.
 use borrow.Author.Needs.{needs}
 use native.Mathlib.Omega.{arith}
 use Prim.Native.Nat.{_-_, _≤_}
 use mathlib.Core.Path.{_≡_, refl, sym, ap, _∙_}
 use lib.ListN.{length, drop, drop-of-length-le}
-use Rattle.felica_calls.specs.Call.{allDigits}
+use Rattle.felica_calls.specs.Bytes.{allDigits}
 use Rattle.felica_calls.proofs.Reading.{no-digit, a-digit}
-use Rattle.felica_calls.proofs.call.all_digits.Statement.{statement}
-use Rattle.felica_calls.proofs.call.all_digits.Tie as tie
+use Rattle.felica_calls.proofs.bytes.all_digits.Statement.{statement}
+use Rattle.felica_calls.proofs.bytes.all_digits.Tie as tie
 
 abbrev Inv-loop : tie.InvT-loop
 Inv-loop field i₀ i = (i ≤ length field) × (allDigits (drop i field) ≡ allDigits field)

@@ -1,10 +1,10 @@
--- `felica_calls::call::value_of` meets its contract.
+-- `felica_calls::bytes::value_of` meets its contract.
 -- Assumes nothing.
 use mathlib.Core.Path.{sym, ap, _∙_}
-use Rattle.felica_calls.specs.Call.{valueOf}
+use Rattle.felica_calls.specs.Bytes.{valueOf}
 use borrow.Author.Needs.{needs}
-use Rattle.felica_calls.proofs.call.value_of.Statement.{statement}
-use Rattle.felica_calls.proofs.call.value_of.Tie as tie
+use Rattle.felica_calls.proofs.bytes.value_of.Statement.{statement}
+use Rattle.felica_calls.proofs.bytes.value_of.Tie as tie
 
 digit-value-requires : tie.Need-digit-value-requires
 digit-value-requires c κs = search needs

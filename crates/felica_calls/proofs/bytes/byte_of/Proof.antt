@@ -1,10 +1,10 @@
--- `felica_calls::call::byte_of` meets its contract.
+-- `felica_calls::bytes::byte_of` meets its contract.
 -- Assumes nothing.
 use native.Mathlib.Omega.{arith}
 use Rattle.felica_calls.proofs.Reading.{value-small}
 use borrow.Author.Needs.{needs}
-use Rattle.felica_calls.proofs.call.byte_of.Statement.{statement}
-use Rattle.felica_calls.proofs.call.byte_of.Tie as tie
+use Rattle.felica_calls.proofs.bytes.byte_of.Statement.{statement}
+use Rattle.felica_calls.proofs.bytes.byte_of.Tie as tie
 
 value-of-requires : tie.Need-value-of-requires
 value-of-requires c κs = search needs

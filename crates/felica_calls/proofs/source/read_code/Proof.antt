@@ -1,10 +1,10 @@
--- `felica_calls::call::read_code` meets its contract.
+-- `felica_calls::source::read_code` meets its contract.
 -- Assumes nothing.
 use mathlib.Core.Path.{sym, _∙_}
 use Rattle.felica_calls.proofs.Reading.{code-missing, code-size, code-two}
 use borrow.Author.Needs.{needs}
-use Rattle.felica_calls.proofs.call.read_code.Statement.{statement}
-use Rattle.felica_calls.proofs.call.read_code.Tie as tie
+use Rattle.felica_calls.proofs.source.read_code.Statement.{statement}
+use Rattle.felica_calls.proofs.source.read_code.Tie as tie
 
 returns : tie.Need-returns
 returns c = sym (code-missing (c .before .before .args .field .now) (c .if1 .taken))

@@ -1,4 +1,4 @@
--- `felica_calls::call::decode` meets its contract: byte after byte.
+-- `felica_calls::bytes::decode` meets its contract: byte after byte.
 -- Assumes nothing.
 use borrow.Author.Needs.{needs}
 use native.Mathlib.Omega.{arith}
@@ -6,11 +6,11 @@ use Prim.Native.Nat.{_*_, _-_, _≤_}
 use mathlib.Core.Path.{_≡_, refl, sym, ap, _∙_}
 use lib.ListN.{length, drop}
 use Rattle.felica_text.specs.Put.{buffer, put}
-use Rattle.felica_calls.specs.Call.{bytesOf}
+use Rattle.felica_calls.specs.Bytes.{bytesOf}
 use Rattle.felica_text.proofs.Laws.{put-rest, put-none}
 use Rattle.felica_calls.proofs.Reading.{bytes-next, bytes-end}
-use Rattle.felica_calls.proofs.call.decode.Statement.{statement}
-use Rattle.felica_calls.proofs.call.decode.Tie as tie
+use Rattle.felica_calls.proofs.bytes.decode.Statement.{statement}
+use Rattle.felica_calls.proofs.bytes.decode.Tie as tie
 
 abbrev Inv-loop : tie.InvT-loop
 Inv-loop field bytes₀ count next₀ i₀ bytes next i = (i ≤ count) × (length bytes ≡ length bytes₀) × (put (buffer bytes next) (bytesOf (drop (2 * i) field)) ≡ put (buffer bytes₀ 0) (bytesOf field))
