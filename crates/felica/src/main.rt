@@ -7,6 +7,9 @@ ghost use Rattle.felica_command.specs.Places.{Account};
 ghost use Rattle.felica_command.specs.declared.command.Parsed.{Parsed};
 ghost use Rattle.felica_text.specs.Put.{buffer, put};
 ghost use Rattle.felica_answers.specs.Answer.{lineOf};
+
+mod lists;
+
 use felica_answers::answer::put_answer;
 use felica_calls::call::Call;
 use felica_calls::call::read_call;
@@ -15,16 +18,19 @@ use felica_calls::fault::put_fault;
 use felica_parse::parse_frame;
 use felica_parse::parse_payload;
 use felica_parse::parse_secure_payload;
+use felica_parse::payload_of;
 use felica_text::find::find;
 use felica_text::put::put_byte;
 use libc::STDIN_FILENO;
 use libc::STDOUT_FILENO;
+use lists::Source;
+use lists::answer_list;
 
 // Bytes of the longest call.
 const MAX_CALL_BYTES: usize = 16384;
 
 // Room for the longest answer and its line feed: a package of that many bytes in digits, and the fields before it. Blocks and codes
-// come to less.
+// come to less, and so do the five lists.
 const ANSWER_ROOM: usize = 33024;
 
 // How much of the output waits to be written, and whether a write has failed.
@@ -45,10 +51,7 @@ fn answer_frame(frame: &[u8], out: &mut [u8], at: usize) -> usize
     ensures { λ r. ⌜ ((p : Parsed) × Account (drop 1 (now (frame .entry))) 1 (readFrame (now (frame .entry))) p × (buffer (now (out .exit)) r ≡ put (buffer (now (out .entry)) at) (lineOf (drop 1 (now (frame .entry))) p))) ⌝ }
 {
     let parsed = parse_frame(frame);
-    if frame.len() == 0 {
-        return put_answer(out, at, frame, parsed);
-    }
-    put_answer(out, at, &frame[1..], parsed)
+    put_answer(out, at, payload_of(frame), parsed)
 }
 
 fn answer_payload(payload: &[u8], out: &mut [u8], at: usize) -> usize
@@ -72,9 +75,27 @@ fn answer_call(line: &[u8], bytes: &mut [u8], out: &mut [u8], at: usize) -> usiz
         Call::Frame(count) => answer_frame(&bytes[..count], out, at),
         Call::Payload(count) => answer_payload(&bytes[..count], out, at),
         Call::Secure(code, count) => answer_secure(code, &bytes[..count], out, at),
-        Call::ListFrame(_, _) => put_fault(out, at, Fault::UnknownCall),
-        Call::ListPayload(_, _) => put_fault(out, at, Fault::UnknownCall),
-        Call::ListSecure(_, _, _) => put_fault(out, at, Fault::UnknownCall),
+        Call::ListFrame(count, sizes) => answer_list(
+            Source::Frame,
+            &bytes[..count],
+            sizes,
+            out,
+            at,
+        ),
+        Call::ListPayload(count, sizes) => answer_list(
+            Source::Payload,
+            &bytes[..count],
+            sizes,
+            out,
+            at,
+        ),
+        Call::ListSecure(code, count, sizes) => answer_list(
+            Source::Secure(code),
+            &bytes[..count],
+            sizes,
+            out,
+            at,
+        ),
         Call::Wrong(fault) => put_fault(out, at, fault),
     }
 }

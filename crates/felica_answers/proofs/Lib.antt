@@ -1,2 +1,2 @@
 pub mod Rows
-pub mod Refused
+pub mod Listed

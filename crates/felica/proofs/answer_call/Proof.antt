@@ -1,9 +1,9 @@
--- `felica::answer_call` stays within the output, and the bytes of the call within their buffer.
+-- `felica::answer_call` stays within the output, and the bytes and the lengths of the call within their buffers.
 -- Assumes nothing.
 use mathlib.Core.Path.{sym}
 use lib.Seq.{length-take-le}
 use Rattle.felica_text.proofs.Laws.{put-within}
-use Rattle.felica_calls.proofs.Counts.{count-within}
+use Rattle.felica_calls.proofs.Counts.{count-within, sizes-within}
 use borrow.Author.Needs.{needs}
 use Rattle.felica.proofs.answer_call.Statement.{statement}
 use Rattle.felica.proofs.answer_call.Tie as tie
@@ -47,29 +47,47 @@ slice-aggregate-answer-secure c = sym (length-take-le _ _ (rw (c .before .before
 answer-secure-requires : tie.Need-answer-secure-requires
 answer-secure-requires c κs = search needs
 
-enum-told : tie.Need-enum-told
-enum-told c = search needs
-
-put-fault-requires : tie.Need-put-fault-requires
-put-fault-requires c κs = search needs
-
-enum-told-2 : tie.Need-enum-told-2
-enum-told-2 c = search needs
-
-put-fault-requires-2 : tie.Need-put-fault-requires-2
-put-fault-requires-2 c κs = search needs
-
-enum-told-3 : tie.Need-enum-told-3
-enum-told-3 c = search needs
-
-put-fault-requires-3 : tie.Need-put-fault-requires-3
-put-fault-requires-3 c κs = search needs
-
 enum-known-call-4 : tie.Need-enum-known-call-4
 enum-known-call-4 c = search needs
 
-put-fault-requires-4 : tie.Need-put-fault-requires-4
-put-fault-requires-4 c κs = search needs
+slice-reshare-prefix-answer-list : tie.Need-slice-reshare-prefix-answer-list
+slice-reshare-prefix-answer-list c = rw (c .before .call4 .given .1) at (count-within _ _ (c .before .before .before .before .before .read-call .ensures))
+
+slice-aggregate-answer-list : tie.Need-slice-aggregate-answer-list
+slice-aggregate-answer-list c = sym (length-take-le _ _ (rw (c .before .before .call4 .given .1) at (count-within _ _ (c .before .before .before .before .before .before .read-call .ensures))))
+
+answer-list-requires : tie.Need-answer-list-requires
+answer-list-requires c κs = rw (c .before .before .before .call4 .given .1) at (sizes-within _ _ (c .before .before .before .before .before .before .before .read-call .ensures))
+
+enum-known-call-5 : tie.Need-enum-known-call-5
+enum-known-call-5 c = search needs
+
+slice-reshare-prefix-answer-list-2 : tie.Need-slice-reshare-prefix-answer-list-2
+slice-reshare-prefix-answer-list-2 c = rw (c .before .call5 .given .1) at (count-within _ _ (c .before .before .before .before .before .read-call .ensures))
+
+slice-aggregate-answer-list-2 : tie.Need-slice-aggregate-answer-list-2
+slice-aggregate-answer-list-2 c = sym (length-take-le _ _ (rw (c .before .before .call5 .given .1) at (count-within _ _ (c .before .before .before .before .before .before .read-call .ensures))))
+
+answer-list-requires-2 : tie.Need-answer-list-requires-2
+answer-list-requires-2 c κs = rw (c .before .before .before .call5 .given .1) at (sizes-within _ _ (c .before .before .before .before .before .before .before .read-call .ensures))
+
+enum-known-call-6 : tie.Need-enum-known-call-6
+enum-known-call-6 c = search needs
+
+slice-reshare-prefix-answer-list-3 : tie.Need-slice-reshare-prefix-answer-list-3
+slice-reshare-prefix-answer-list-3 c = rw (c .before .call6 .given .1) at (count-within _ _ (c .before .before .before .before .before .read-call .ensures))
+
+slice-aggregate-answer-list-3 : tie.Need-slice-aggregate-answer-list-3
+slice-aggregate-answer-list-3 c = sym (length-take-le _ _ (rw (c .before .before .call6 .given .1) at (count-within _ _ (c .before .before .before .before .before .before .read-call .ensures))))
+
+answer-list-requires-3 : tie.Need-answer-list-requires-3
+answer-list-requires-3 c κs = rw (c .before .before .before .call6 .given .1) at (sizes-within _ _ (c .before .before .before .before .before .before .before .read-call .ensures))
+
+enum-known-call-7 : tie.Need-enum-known-call-7
+enum-known-call-7 c = search needs
+
+put-fault-requires : tie.Need-put-fault-requires
+put-fault-requires c κs = search needs
 
 same-length : tie.Need-same-length
 same-length c = search needs
@@ -105,7 +123,7 @@ same-length-8 : tie.Need-same-length-8
 same-length-8 c = search needs
 
 returns-4 : tie.Need-returns-4
-returns-4 c = put-within _ _ _ (c .before .before .put-fault .ensures)
+returns-4 c = put-within _ _ _ (c .before .before .answer-list .ensures)
 
 same-length-9 : tie.Need-same-length-9
 same-length-9 c = search needs
@@ -114,7 +132,7 @@ same-length-10 : tie.Need-same-length-10
 same-length-10 c = search needs
 
 returns-5 : tie.Need-returns-5
-returns-5 c = put-within _ _ _ (c .before .before .put-fault2 .ensures)
+returns-5 c = put-within _ _ _ (c .before .before .answer-list2 .ensures)
 
 same-length-11 : tie.Need-same-length-11
 same-length-11 c = search needs
@@ -123,7 +141,7 @@ same-length-12 : tie.Need-same-length-12
 same-length-12 c = search needs
 
 returns-6 : tie.Need-returns-6
-returns-6 c = put-within _ _ _ (c .before .before .put-fault3 .ensures)
+returns-6 c = put-within _ _ _ (c .before .before .answer-list3 .ensures)
 
 same-length-13 : tie.Need-same-length-13
 same-length-13 c = search needs
@@ -132,7 +150,7 @@ same-length-14 : tie.Need-same-length-14
 same-length-14 c = search needs
 
 returns-7 : tie.Need-returns-7
-returns-7 c = put-within _ _ _ (c .before .before .put-fault4 .ensures)
+returns-7 c = put-within _ _ _ (c .before .before .put-fault .ensures)
 
 pub answer-call-spec : {M : Type 1} → statement M
 answer-call-spec =
@@ -151,14 +169,20 @@ answer-call-spec =
     slice-reshare-prefix-answer-secure
     slice-aggregate-answer-secure
     answer-secure-requires
-    enum-told
-    put-fault-requires
-    enum-told-2
-    put-fault-requires-2
-    enum-told-3
-    put-fault-requires-3
     enum-known-call-4
-    put-fault-requires-4
+    slice-reshare-prefix-answer-list
+    slice-aggregate-answer-list
+    answer-list-requires
+    enum-known-call-5
+    slice-reshare-prefix-answer-list-2
+    slice-aggregate-answer-list-2
+    answer-list-requires-2
+    enum-known-call-6
+    slice-reshare-prefix-answer-list-3
+    slice-aggregate-answer-list-3
+    answer-list-requires-3
+    enum-known-call-7
+    put-fault-requires
     same-length
     same-length-2
     returns

@@ -1,6 +1,7 @@
 -- `felica_answers::lists::put_lists` meets its contract: piece after piece.
 -- Assumes nothing.
 use Rattle.felica_text.proofs.Laws.{put-then}
+use Rattle.felica_answers.specs.Lists.{listsText}
 use borrow.Author.Needs.{needs}
 use Rattle.felica_answers.proofs.lists.put_lists.Statement.{statement}
 use Rattle.felica_answers.proofs.lists.put_lists.Tie as tie
@@ -48,6 +49,7 @@ same-length : tie.Need-same-length
 same-length c = search needs
 
 returns : tie.Need-returns
+unfolding listsText
 returns c = put-then _ _ _ (c .before .before .before .before .before .before .before .before .before .before .before .before .before .before .before .before .before .before .before .before .before .before .before .before .before .before .before .before .before .before .before .put-bytes .ensures) (put-then _ _ _ (c .before .before .before .before .before .before .before .before .before .before .before .before .before .before .before .before .before .before .before .before .before .before .before .before .before .before .before .put-hex-byte .ensures) (put-then _ _ _ (c .before .before .before .before .before .before .before .before .before .before .before .before .before .before .before .before .before .before .before .before .before .before .put-words-field .ensures) (put-then _ _ _ (c .before .before .before .before .before .before .before .before .before .before .before .before .before .before .before .before .before .put-words-field2 .ensures) (put-then _ _ _ (c .before .before .before .before .before .before .before .before .before .before .before .before .put-words-field3 .ensures) (put-then _ _ _ (c .before .before .before .before .before .before .before .put-nibbles-field .ensures) (c .before .before .put-nibbles-field2 .ensures))))))
 
 pub put-lists-spec : {M : Type 1} → statement M
