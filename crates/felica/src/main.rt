@@ -51,7 +51,8 @@ fn answer_frame(frame: &[u8], out: &mut [u8], at: usize) -> usize
     ensures { λ r. ⌜ ((p : Parsed) × Account (drop 1 (now (frame .entry))) 1 (readFrame (now (frame .entry))) p × (buffer (now (out .exit)) r ≡ put (buffer (now (out .entry)) at) (lineOf (drop 1 (now (frame .entry))) p))) ⌝ }
 {
     let parsed = parse_frame(frame);
-    put_answer(out, at, payload_of(frame), parsed)
+    let payload = payload_of(frame);
+    put_answer(out, at, payload, parsed)
 }
 
 fn answer_payload(payload: &[u8], out: &mut [u8], at: usize) -> usize

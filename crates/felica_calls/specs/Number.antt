@@ -16,7 +16,7 @@ unfoldable pub allDecimal : List ℕ → Bool
 allDecimal [] = true
 allDecimal (d ∷ ds) = (leb 48 d and leb d 57) and allDecimal ds
 
--- the number of decimal digits behind those of n
+-- the value of decimal digits that follow those of n
 unfoldable pub decimalFrom : ℕ → List ℕ → ℕ
 decimalFrom n [] = n
 decimalFrom n (d ∷ ds) = decimalFrom (10 * n + (d - 48)) ds

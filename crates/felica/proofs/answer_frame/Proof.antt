@@ -19,7 +19,7 @@ same-length c = search needs
 returns : tie.Need-returns
 returns c =
     let p = c .before .before .before .before .before .parse-frame in
-    (p .result, (p .ensures .0, p .ensures .1, p .ensures .2), rw (c .before .before .before .payload-of .ensures) at (c .before .before .put-answer .ensures))
+    (p .result, (p .ensures .0, p .ensures .1, p .ensures .2), rw (c .before .before .before .before .payload-of .ensures) at (c .before .before .put-answer .ensures))
 
 pub answer-frame-spec : {M : Type 1} → statement M
 answer-frame-spec =
