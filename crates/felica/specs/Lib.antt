@@ -1,2 +1,3 @@
--- What the program answers to a call of the list reader.
+-- What a call is answered by: Source says what its bytes are, Lists the answer of the list reader.
+pub mod Source
 pub mod Lists

@@ -7,21 +7,16 @@ ghost use Rattle.felica_command.specs.Places.{placesOf, Inside};
 ghost use Rattle.felica_text.specs.Put.{buffer, put};
 ghost use Rattle.felica_lists.specs.Lists.{buffers, outcome, listed};
 ghost use Rattle.felica_calls.specs.Sizes.{Lent};
-ghost use Rattle.felica.specs.Lists.{readSource, payloadIn, listAnswer};
+ghost use Rattle.felica.specs.Source.{readingOf, payloadIn};
+ghost use Rattle.felica.specs.Lists.{listAnswer};
 use felica_answers::lists::put_listed;
 use felica_calls::sizes::MAX_LENT;
 use felica_calls::sizes::Sizes;
+use felica_calls::source::Source;
 use felica_command::command::Parsed;
 use felica_lists::list_frame;
 use felica_lists::list_payload;
 use felica_lists::list_secure_payload;
-
-// What the bytes of a call are.
-pub(crate) enum Source {
-    Frame,
-    Payload,
-    Secure(u8),
-}
 
 pub(crate) fn answer_list(
     source: Source,
@@ -31,7 +26,7 @@ pub(crate) fn answer_list(
     at: usize,
 ) -> usize
     requires { ⌜ Lent sizes ⌝ }
-    ensures { λ r. ⌜ buffer (now (out .exit)) r ≡ put (buffer (now (out .entry)) at) (listAnswer (readSource source (now (bytes .entry))) sizes) ⌝ }
+    ensures { λ r. ⌜ buffer (now (out .exit)) r ≡ put (buffer (now (out .entry)) at) (listAnswer (readingOf source (now (bytes .entry))) sizes) ⌝ }
 {
     let mut first = [0u16; MAX_LENT];
     let mut second = [0u16; MAX_LENT];
@@ -66,7 +61,7 @@ fn answer_from(
     at: usize,
 ) -> usize
     requires { ⌜ (sizes .first ≤ length (now first)) × (sizes .second ≤ length (now second)) × (sizes .numbers ≤ length (now numbers)) × (sizes .places ≤ length (now places)) × (sizes .modes ≤ length (now modes)) ⌝ }
-    ensures { λ r. ⌜ buffer (now (out .exit)) r ≡ put (buffer (now (out .entry)) at) (listAnswer (readSource source (now (bytes .entry))) sizes) ⌝ }
+    ensures { λ r. ⌜ buffer (now (out .exit)) r ≡ put (buffer (now (out .entry)) at) (listAnswer (readingOf source (now (bytes .entry))) sizes) ⌝ }
 {
     let first_end = sizes.first;
     let second_end = sizes.second;
@@ -95,7 +90,7 @@ fn list(
     places: &mut [u8],
     modes: &mut [u8],
 ) -> Parsed
-    ensures { λ r. ⌜ (outcome (meaning (payloadIn source (now (bytes .entry))) r) (buffers (now (first .exit)) (now (second .exit)) (now (numbers .exit)) (now (places .exit)) (now (modes .exit))) ≡ listed (readSource source (now (bytes .entry))) (buffers (now (first .entry)) (now (second .entry)) (now (numbers .entry)) (now (places .entry)) (now (modes .entry)))) × Inside (payloadIn source (now (bytes .entry))) (placesOf r) ⌝ }
+    ensures { λ r. ⌜ (outcome (meaning (payloadIn source (now (bytes .entry))) r) (buffers (now (first .exit)) (now (second .exit)) (now (numbers .exit)) (now (places .exit)) (now (modes .exit))) ≡ listed (readingOf source (now (bytes .entry))) (buffers (now (first .entry)) (now (second .entry)) (now (numbers .entry)) (now (places .entry)) (now (modes .entry)))) × Inside (payloadIn source (now (bytes .entry))) (placesOf r) ⌝ }
 {
     match source {
         Source::Frame => list_frame(bytes, first, second, numbers, places, modes),

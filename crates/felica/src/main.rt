@@ -1,30 +1,20 @@
 // Answers calls: reads them on standard input, a line each, and writes a line for each to standard output.
 ghost use Prim.Native.Nat.{_≤_};
-ghost use mathlib.Core.Path.{_≡_};
-ghost use lib.ListN.{length, drop};
-ghost use Rattle.felica_format.specs.Read.{readFrame, readPayload, readSecure};
-ghost use Rattle.felica_command.specs.Places.{Account};
-ghost use Rattle.felica_command.specs.declared.command.Parsed.{Parsed};
-ghost use Rattle.felica_text.specs.Put.{buffer, put};
-ghost use Rattle.felica_answers.specs.Answer.{lineOf};
+ghost use lib.ListN.{length};
 
 mod lists;
+mod parse;
 
-use felica_answers::answer::put_answer;
 use felica_calls::call::Call;
 use felica_calls::call::read_call;
 use felica_calls::fault::Fault;
 use felica_calls::fault::put_fault;
-use felica_parse::parse_frame;
-use felica_parse::parse_payload;
-use felica_parse::parse_secure_payload;
-use felica_parse::payload_of;
 use felica_text::find::find;
 use felica_text::put::put_byte;
 use libc::STDIN_FILENO;
 use libc::STDOUT_FILENO;
-use lists::Source;
 use lists::answer_list;
+use parse::answer_parse;
 
 // Bytes of the longest call.
 const MAX_CALL_BYTES: usize = 16384;
@@ -46,57 +36,14 @@ struct State {
     failed: bool,
 }
 
-// The line of the one result that the definitions allow.
-fn answer_frame(frame: &[u8], out: &mut [u8], at: usize) -> usize
-    ensures { λ r. ⌜ ((p : Parsed) × Account (drop 1 (now (frame .entry))) 1 (readFrame (now (frame .entry))) p × (buffer (now (out .exit)) r ≡ put (buffer (now (out .entry)) at) (lineOf (drop 1 (now (frame .entry))) p))) ⌝ }
-{
-    let parsed = parse_frame(frame);
-    let payload = payload_of(frame);
-    put_answer(out, at, payload, parsed)
-}
-
-fn answer_payload(payload: &[u8], out: &mut [u8], at: usize) -> usize
-    ensures { λ r. ⌜ ((p : Parsed) × Account (now (payload .entry)) 1 (readPayload (now (payload .entry))) p × (buffer (now (out .exit)) r ≡ put (buffer (now (out .entry)) at) (lineOf (now (payload .entry)) p))) ⌝ }
-{
-    put_answer(out, at, payload, parse_payload(payload))
-}
-
-fn answer_secure(code: u8, payload: &[u8], out: &mut [u8], at: usize) -> usize
-    ensures { λ r. ⌜ ((p : Parsed) × Account (now (payload .entry)) 0 (readSecure code (now (payload .entry))) p × (buffer (now (out .exit)) r ≡ put (buffer (now (out .entry)) at) (lineOf (now (payload .entry)) p))) ⌝ }
-{
-    put_answer(out, at, payload, parse_secure_payload(code, payload))
-}
-
 // An empty line is answered too, so that there is a line for each line.
 fn answer_call(line: &[u8], bytes: &mut [u8], out: &mut [u8], at: usize) -> usize
     ensures { λ r. ⌜ (at ≤ length (now (out .entry)) → r ≤ length (now (out .exit))) ⌝ }
 {
     let call = read_call(line, bytes);
     match call {
-        Call::Frame(count) => answer_frame(&bytes[..count], out, at),
-        Call::Payload(count) => answer_payload(&bytes[..count], out, at),
-        Call::Secure(code, count) => answer_secure(code, &bytes[..count], out, at),
-        Call::ListFrame(count, sizes) => answer_list(
-            Source::Frame,
-            &bytes[..count],
-            sizes,
-            out,
-            at,
-        ),
-        Call::ListPayload(count, sizes) => answer_list(
-            Source::Payload,
-            &bytes[..count],
-            sizes,
-            out,
-            at,
-        ),
-        Call::ListSecure(code, count, sizes) => answer_list(
-            Source::Secure(code),
-            &bytes[..count],
-            sizes,
-            out,
-            at,
-        ),
+        Call::Parse(source, count) => answer_parse(source, &bytes[..count], out, at),
+        Call::List(source, count, sizes) => answer_list(source, &bytes[..count], sizes, out, at),
         Call::Wrong(fault) => put_fault(out, at, fault),
     }
 }

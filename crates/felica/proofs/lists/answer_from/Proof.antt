@@ -4,7 +4,7 @@ use mathlib.Core.Path.{sym, ap, _∙_}
 use lib.Seq.{length-take-le}
 use denote.Ref.{now}
 use Rattle.felica_text.specs.Put.{put}
-use Rattle.felica.specs.Lists.{readSource, payloadIn}
+use Rattle.felica.specs.Source.{readingOf, payloadIn}
 use Rattle.felica.proofs.Listed.{line-from}
 use borrow.Author.Needs.{needs}
 use Rattle.felica.proofs.lists.answer_from.Statement.{statement}
@@ -69,7 +69,7 @@ returns c =
     let w = c .before .before .before .before .before .before .before .before .before .before .before .before .before .before .before .before .before .before .before .list in
     let a = c .before .before .before .before .before .before .before .before .before .before .before .before .before .before .before .before .before .before .before .before .before .before .before .before .before .before .before .before .before .before .before .before .args in
     let s = payloadIn (a .source) (now (a .bytes)) in
-    c .before .before .put-listed .ensures ∙ ap (put _) (line-from s (readSource (a .source) (now (a .bytes))) (a .sizes) _ _ _ _ _ (w .result) _ (c .before .before .before .before .before .before .before .before .before .before .before .before .before .before .before .before .before .before .before .before .before .before .before .before .before .before .before .before .before .before .before .before .pre) (w .ensures .0) (w .ensures .1))
+    c .before .before .put-listed .ensures ∙ ap (put _) (line-from s (readingOf (a .source) (now (a .bytes))) (a .sizes) _ _ _ _ _ (w .result) _ (c .before .before .before .before .before .before .before .before .before .before .before .before .before .before .before .before .before .before .before .before .before .before .before .before .before .before .before .before .before .before .before .before .pre) (w .ensures .0) (w .ensures .1))
 
 pub answer-from-spec : {M : Type 1} → statement M
 answer-from-spec =
