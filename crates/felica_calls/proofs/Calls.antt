@@ -17,23 +17,23 @@ use Rattle.felica_calls.specs.declared.source.SourceRead.the-variants.{S
 use Rattle.felica_calls.specs.declared.call.Call.{Call}
 
 -- 70, 80, 83 and 76 are the codes of F, P, S and L
-module _ (s : List ℕ) where
+module _ (s : List ℕ) (some : length s ≡ 0 → ⊥) where
   pub source-frame : isByte 70 (fieldOf s) ≡ true → readSource s ≡ TheSource Frame
   unfolding readSource
-  source-frame f = rw f
+  source-frame f = rw (ne-eqb _ _ some, f)
 
   pub source-payload : isByte 70 (fieldOf s) ≡ false → isByte 80 (fieldOf s) ≡ true → readSource s ≡ TheSource Payload
   unfolding readSource
-  source-payload f p = rw (f, p)
+  source-payload f p = rw (ne-eqb _ _ some, f, p)
 
   pub source-secure : isByte 70 (fieldOf s) ≡ false → isByte 80 (fieldOf s) ≡ false → isByte 83 (fieldOf s) ≡ true
       → readSource s ≡ secureSource (readCommandCode (nextField (behindField s)))
   unfolding readSource
-  source-secure f p k = rw (f, p, k)
+  source-secure f p k = rw (ne-eqb _ _ some, f, p, k)
 
   pub source-unknown : isByte 70 (fieldOf s) ≡ false → isByte 80 (fieldOf s) ≡ false → isByte 83 (fieldOf s) ≡ false → readSource s ≡ Wrong UnknownCall
   unfolding readSource
-  source-unknown f p k = rw (f, p, k)
+  source-unknown f p k = rw (ne-eqb _ _ some, f, p, k)
 
 module _ (line held : List ℕ) (some : length line ≡ 0 → ⊥) where
   pub line-list : isByte 76 (fieldOf line) ≡ true → readCall line held ≡ listCall (readSource (drop 1 (behindField line))) (drop 1 (behindField line)) held

@@ -4,6 +4,8 @@ use Prim.Native.Nat.{ℕ}
 use Prim.Native.Char.{code}
 use mathlib.Core.Bool.{cond}
 use mathlib.Core.List.{List, [], _∷_}
+use lib.ListN.{length}
+use lib.Dec.{eqb}
 use Rattle.felica_calls.specs.Field.{fieldOf, behindField, nextField, behindNext, isByte}
 use Rattle.felica_calls.specs.Bytes.{allDigits, byteOf}
 use Rattle.felica_calls.specs.declared.fault.Fault.the-variants.{UnknownCall, MissingField, CodeSize, NoDigit as NotADigit}
@@ -28,10 +30,11 @@ secureSource (WrongCode fault) = Wrong fault
 -- "frame, payload, secure code with payload"
 unfoldable pub readSource : List ℕ → SourceRead
 readSource s =
-    cond (isByte (code "F") (fieldOf s)) (TheSource Frame)
+    cond (eqb (length s) 0) (Wrong MissingField)
+    (cond (isByte (code "F") (fieldOf s)) (TheSource Frame)
     (cond (isByte (code "P") (fieldOf s)) (TheSource Payload)
     (cond (isByte (code "S") (fieldOf s)) (secureSource (readCommandCode (nextField (behindField s))))
-    (Wrong UnknownCall)))
+    (Wrong UnknownCall))))
 
 -- what follows the name, and the code of a secure payload
 abbrev pub behindSource : Source → List ℕ → List ℕ

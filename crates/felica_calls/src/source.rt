@@ -31,6 +31,9 @@ enum Code {
 pub(crate) fn read_source(text: &[u8]) -> SourceRead
     ensures { λ r. ⌜ r ≡ readSource (now (text .entry)) ⌝ }
 {
+    if text.len() == 0 {
+        return SourceRead::Wrong(Fault::MissingField);
+    }
     let name = field_of(text);
     if is_byte(name, b'F') {
         return SourceRead::Source(Source::Frame);
