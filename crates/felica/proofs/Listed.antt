@@ -1,16 +1,15 @@
 -- The line put from the buffers is that of what the list reader answers, whatever stands behind the parts that were lent.
 -- Assumes nothing.
 use Prim.Native.Nat.{ℕ, _+_, _≤_}
-use native.Mathlib.Omega.{arith}
 use mathlib.Core.Path.{_≡_, refl, sym, ap, _∙_}
 use mathlib.Core.Bool.{Bool, true, false}
 use mathlib.Core.List.{List, _++_, map, append-assoc}
-use mathlib.Core.Option.{Option}
 use lib.ListN.{length, take, drop, length-map, length-replicate}
 use lib.Seq.{take-append-seam, length-take-le}
 use Rattle.felica_format.specs.Basic.{zeros}
 use Rattle.felica_format.specs.Command.{Command, Element}
 use Rattle.felica_format.specs.Read.{Answer as Reading, gives, refused}
+use Rattle.felica_format.proofs.Steps.{not-given}
 use Rattle.felica_command.specs.Meaning.{codesAt, elementsAt, Fields, fieldsOf, commandIs, answerIs, meaning}
 use Rattle.felica_command.specs.Places.{elementsSize, answerPlaces, placesOf, Inside}
 use Rattle.felica_command.specs.declared.command.Answer.{Answer}
@@ -30,9 +29,6 @@ front-is list held rest n e =
 
 values-are : (value : Element → ℕ) (es : List Element) (held rest : List ℕ) (n : ℕ) → length es ≡ n → take n (front (map value es) held ++ rest) ≡ map value es
 values-are value es held rest n e = front-is (map value es) held rest n (length-map es value ∙ e)
-
-not-both : {c : Command} {n : ℕ} {code : Option ℕ} → gives c ≡ refused n code → ⊥
-not-both h = absurd (let z : _≡_ {A = ℕ} 0 1 = cc in omega arith)
 
 gives-same : {c d : Command} → gives c ≡ gives d → c ≡ d
 gives-same e = cc
@@ -67,7 +63,7 @@ module _ (s : List ℕ) (b rest : Buffers) where
       → Inside s (answerPlaces a) → lineFrom a after rest ≡ listLine (listed reading b .answer)
   unfolding listedText
   listed-line (AnswerRefused why) idm challenge reading after e inside = refusal-line why ∙ ap (λ (o : Outcome). listLine (o .answer)) e
-  listed-line (AnswerCommand kind) idm challenge (refused n code) after e inside = absurd (not-both (ap (λ (o : Outcome). o .answer) e))
+  listed-line (AnswerCommand kind) idm challenge (refused n code) after e inside = absurd (not-given (sym (ap (λ (o : Outcome). o .answer) e)))
   listed-line (AnswerCommand kind) idm challenge (gives c) after e inside = go (fits (listsOf c) b) e
     where
       go : (room : Bool) → outcome (gives (commandIs s idm challenge (fieldsOf kind))) after ≡ listedIf room c b
@@ -79,7 +75,7 @@ module _ (s : List ℕ) (b rest : Buffers) where
           fields-line (fieldsOf kind) idm challenge (inside .2) after
           (ap (λ (o : Outcome). o .buffers) e ∙ ap (λ (x : Command). fronts (listsOf x) b) (sym same))
           ∙ ap (λ (x : Command). listLine (gives x)) same
-      go false e = absurd (not-both (ap (λ (o : Outcome). o .answer) e))
+      go false e = absurd (not-given (sym (ap (λ (o : Outcome). o .answer) e)))
 
 -- what the list reader answers depends on the lengths of the buffers alone
 pub same-answer : (reading : Reading) (b d : Buffers) → length (b .first) ≡ length (d .first) → length (b .second) ≡ length (d .second)

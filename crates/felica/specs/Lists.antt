@@ -8,7 +8,7 @@ use Rattle.felica_lists.specs.Lists.{Buffers, buffers, listed}
 use Rattle.felica_calls.specs.declared.sizes.Sizes.{Sizes}
 use Rattle.felica_answers.specs.Lists.{listLine}
 
--- "buffers of those lengths"
+-- buffers of the lengths of a call
 abbrev pub lent : Sizes → Buffers
 lent z = buffers (zeros (z .first)) (zeros (z .second)) (zeros (z .numbers)) (zeros (z .places)) (zeros (z .modes))
 

@@ -1,4 +1,4 @@
--- The line that answers a call: `OK cc field=value ...`, or `NO n cc`, `NO n --` where the refusal has no code.
+-- The line that answers a call of the parser: `OK cc field=value ...`, or `NO n cc`, `NO n --` where the refusal has no code.
 -- Assumes nothing.
 use Prim.Native.Nat.{ℕ}
 use mathlib.Core.Bool.{Bool, true, false}
@@ -40,7 +40,7 @@ abbrev pub row : Bool → List ℕ → List ℕ → List ℕ → List ℕ → Ro
 row idm codes blocks fixed issuePackage =
     record { idm = idm; codes = codes; blocks = blocks; fixed = fixed; issuePackage = issuePackage }
 
--- "Fields in order, by code", in the payload s, with the 16 bytes beside the command
+-- the fields of each command in their order, read in the payload s, with the 16 bytes beside the command
 unfoldable pub rowOf : List ℕ → List ℕ → FelicaStandardCommand → Row
 rowOf s ch (Polling system request slots) =
     row false [] [] (wordField " system=" system ++ (byteField " request=" request ++ byteField " slots=" slots)) []

@@ -1,4 +1,4 @@
--- The line that answers a call of the list reader: "the five lists", `OK cc first=... second=... numbers=... places=... modes=...`, or the refusal.
+-- The line that answers a call of the list reader: `OK cc first=... second=... numbers=... places=... modes=...`, or the refusal.
 -- Assumes nothing.
 use Prim.Native.Nat.{ℕ}
 use mathlib.Core.List.{List, _++_}
@@ -11,7 +11,7 @@ use Rattle.felica_text.specs.Text.{text, byteText}
 use Rattle.felica_fields.specs.Field.{wordsField, nibblesField}
 use Rattle.felica_answers.specs.Answer.{refusedText, refusalText}
 
--- "four, one and one digits; codes have four digits"
+-- codes and block numbers in four digits, places and modes in one
 unfoldable pub listsText : ℕ → List ℕ → List ℕ → List ℕ → List ℕ → List ℕ → List ℕ
 listsText code first second numbers places modes =
     text "OK " ++ (byteText code ++ (wordsField " first=" first ++ (wordsField " second=" second

@@ -1,4 +1,4 @@
-// The line that answers a call: `OK`, the code and the fields of the command, or `NO`, the number of the refusal and the code.
+// The line that answers a call of the parser: `OK`, the code and the fields of the command, or `NO`, the number of the refusal and the code.
 ghost use mathlib.Core.Path.{_≡_};
 ghost use Rattle.felica_text.specs.Put.{buffer, put};
 ghost use Rattle.felica_answers.specs.Answer.{refusalText, commandText, lineOf};
@@ -27,7 +27,7 @@ pub fn put_answer(out: &mut [u8], at: usize, payload: &[u8], parsed: Parsed) -> 
     }
 }
 
-pub fn put_refusal(out: &mut [u8], at: usize, refusal: Refusal) -> usize
+pub(crate) fn put_refusal(out: &mut [u8], at: usize, refusal: Refusal) -> usize
     ensures { λ r. ⌜ buffer (now (out .exit)) r ≡ put (buffer (now (out .entry)) at) (refusalText refusal) ⌝ }
 {
     let next = put_bytes(out, at, b"NO ");

@@ -63,7 +63,7 @@ fn front_bytes(bytes: &[u8], count: usize) -> &[u8]
 }
 
 // First codes, second codes, block numbers, service places and access modes of a command.
-pub fn put_lists(
+fn put_lists(
     out: &mut [u8],
     at: usize,
     code: u8,

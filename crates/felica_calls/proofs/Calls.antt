@@ -9,7 +9,7 @@ use borrow.Author.Tests.{ne-eqb}
 use Rattle.felica_calls.specs.Field.{fieldOf, behindField, nextField, isByte}
 use Rattle.felica_calls.specs.Bytes.{Decoded, decoded}
 use Rattle.felica_calls.specs.Source.{secureSource, readCommandCode, readSource}
-use Rattle.felica_calls.specs.Call.{withBytes, parseCall, listCall, readCall}
+use Rattle.felica_calls.specs.Call.{withBytes, askedOf, parseOf, listOf, readCall}
 use Rattle.felica_calls.specs.declared.fault.Fault.the-variants.{UnknownCall}
 use Rattle.felica_calls.specs.declared.bytes.Bytes.{Bytes}
 use Rattle.felica_calls.specs.declared.source.Source.the-variants.{Frame, Payload}
@@ -36,11 +36,11 @@ module _ (s : List ℕ) (some : length s ≡ 0 → ⊥) where
   source-unknown f p k = rw (ne-eqb _ _ some, f, p, k)
 
 module _ (line held : List ℕ) (some : length line ≡ 0 → ⊥) where
-  pub line-list : isByte 76 (fieldOf line) ≡ true → readCall line held ≡ listCall (readSource (drop 1 (behindField line))) (drop 1 (behindField line)) held
+  pub line-list : isByte 76 (fieldOf line) ≡ true → readCall line held ≡ askedOf listOf (readSource (drop 1 (behindField line))) (drop 1 (behindField line)) held
   unfolding readCall
   line-list l = rw (ne-eqb _ _ some, l)
 
-  pub line-parse : isByte 76 (fieldOf line) ≡ false → readCall line held ≡ parseCall (readSource line) line held
+  pub line-parse : isByte 76 (fieldOf line) ≡ false → readCall line held ≡ askedOf parseOf (readSource line) line held
   unfolding readCall
   line-parse l = rw (ne-eqb _ _ some, l)
 

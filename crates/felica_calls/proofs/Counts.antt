@@ -10,10 +10,10 @@ use lib.ListN.{length, drop, length-append, length-drop}
 use borrow.Author.Tests.{ltb-false}
 use Rattle.felica_calls.specs.Field.{fieldOf, behindField, nextField, behindNext, isByte}
 use Rattle.felica_calls.specs.Number.{allDecimal, decimalFrom, readNumber}
-use Rattle.felica_calls.specs.Sizes.{Lent, ifNumber, nextSize, readSizes}
+use Rattle.felica_calls.specs.Sizes.{maxLent, Lent, ifNumber, nextSize, readSizes}
 use Rattle.felica_calls.specs.Bytes.{allDigits, bytesOf, Decoded, decoded, readBytes, readLast}
 use Rattle.felica_calls.specs.Source.{readSource, behindSource}
-use Rattle.felica_calls.specs.Call.{Called, called, withBytes, parseCall, listOf, listCall, readCall, countOf}
+use Rattle.felica_calls.specs.Call.{Called, called, withBytes, askedOf, parseOf, listWith, listOf, readCall, countOf}
 use Rattle.felica_calls.specs.declared.fault.Fault.{Fault}
 use Rattle.felica_calls.specs.declared.fault.Fault.the-variants.{EmptyLine, ExtraField}
 use Rattle.felica_calls.specs.declared.number.Number.{Number}
@@ -30,39 +30,36 @@ use Rattle.felica_calls.specs.declared.call.Call.{Call}
 use Rattle.felica_calls.specs.declared.call.Call.the-variants.{Parse, List as ListCall, Wrong}
 use Rattle.felica_calls.proofs.Reading.{length-bytes}
 
--- a number is at most what was asked for
+-- what holds of both answers of a test
+either : {A : Type 0} (P : A → Type 0) (test : Bool) (a b : A) → P a → (test ≡ false → P b) → P (cond test a b)
+either P true a b p q = p
+either P false a b p q = q refl
+
+-- a length is at most that of the longest buffer
 abbrev Below : Number → Type 0
-Below (TheNumber n) = n ≤ 1024
+Below (TheNumber n) = n ≤ maxLent
 Below (WrongNumber fault) = Unit
 
-either-number : (test : Bool) (a b : Number) → Below a → (test ≡ false → Below b) → Below (cond test a b)
-either-number true a b p q = p
-either-number false a b p q = q refl
-
-number-below : (s : List ℕ) → Below (readNumber 1024 s)
+number-below : (s : List ℕ) → Below (readNumber maxLent s)
 unfolding readNumber
 number-below s =
-    either-number (eqb (length s) 0) _ _ tt λ a.
-    either-number (not (allDecimal s)) _ _ tt λ b.
-    either-number (ltb 1024 (decimalFrom 0 s)) _ _ tt λ c.
-    ltb-false 1024 (decimalFrom 0 s) c
+    either Below (eqb (length s) 0) _ _ tt λ a.
+    either Below (not (allDecimal s)) _ _ tt λ b.
+    either Below (ltb maxLent (decimalFrom 0 s)) _ _ tt λ c.
+    ltb-false maxLent (decimalFrom 0 s) c
 
 -- so are the five lengths
 abbrev AllBelow : SizesRead → Type 0
 AllBelow (TheSizes z) = Lent z
 AllBelow (WrongSizes fault) = Unit
 
-if-below : (found : Number) (f : ℕ → SizesRead) → Below found → ((n : ℕ) → n ≤ 1024 → AllBelow (f n)) → AllBelow (ifNumber found f)
+if-below : (found : Number) (f : ℕ → SizesRead) → Below found → ((n : ℕ) → n ≤ maxLent → AllBelow (f n)) → AllBelow (ifNumber found f)
 if-below (TheNumber n) f h k = k n h
 if-below (WrongNumber fault) f h k = tt
 
-next-below : (s : List ℕ) (f : ℕ → List ℕ → SizesRead) → ((n : ℕ) (rest : List ℕ) → n ≤ 1024 → AllBelow (f n rest)) → AllBelow (nextSize s f)
+next-below : (s : List ℕ) (f : ℕ → List ℕ → SizesRead) → ((n : ℕ) (rest : List ℕ) → n ≤ maxLent → AllBelow (f n rest)) → AllBelow (nextSize s f)
 unfolding nextSize
-next-below s f k = if-below (readNumber 1024 (nextField s)) _ (number-below (nextField s)) (λ n h. k n (behindNext s) h)
-
-end-below : (test : Bool) (z : Sizes) (fault : Fault) → Lent z → AllBelow (cond test (TheSizes z) (WrongSizes fault))
-end-below true z fault l = l
-end-below false z fault l = tt
+next-below s f k = if-below (readNumber maxLent (nextField s)) _ (number-below (nextField s)) (λ n h. k n (behindNext s) h)
 
 sizes-below : (s : List ℕ) → AllBelow (readSizes s)
 unfolding readSizes
@@ -72,7 +69,7 @@ sizes-below s =
     next-below _ _ λ numbers s₃ c.
     next-below _ _ λ places s₄ d.
     next-below _ _ λ modes s₅ e.
-    end-below (eqb (length s₅) 0) (record { first = first; second = second; numbers = numbers; places = places; modes = modes }) ExtraField (a, b, c, d, e)
+    either AllBelow (eqb (length s₅) 0) _ _ (a, b, c, d, e) λ f. tt
 
 abbrev countIs : Bytes → ℕ
 countIs (Count n) = n
@@ -81,24 +78,20 @@ countIs (WrongBytes fault) = 0
 abbrev Fit : Decoded → Type 0
 Fit d = countIs (d .answer) ≤ length (d .buffer)
 
-either : (test : Bool) (d e : Decoded) → Fit d → (test ≡ false → Fit e) → Fit (cond test d e)
-either true d e p q = p
-either false d e p q = q refl
-
 bytes-fit : (s held : List ℕ) → Fit (readBytes s held)
 unfolding readBytes
 bytes-fit s held =
-    either (eqb (length s) 0) _ _ (zero-le) λ a.
-    either (isByte 45 s) _ _ (zero-le) λ b.
-    either (not (allDigits s)) _ _ (zero-le) λ c.
-    either (eqb (length s % 2) 1) _ _ (zero-le) λ d.
-    either (ltb (length held) (length s / 2)) _ _ (zero-le) λ e.
+    either Fit (eqb (length s) 0) _ _ (zero-le) λ a.
+    either Fit (isByte 45 s) _ _ (zero-le) λ b.
+    either Fit (not (allDigits s)) _ _ (zero-le) λ c.
+    either Fit (eqb (length s % 2) 1) _ _ (zero-le) λ d.
+    either Fit (ltb (length held) (length s / 2)) _ _ (zero-le) λ e.
     omega (arith, ltb-false (length held) (length s / 2) e, length-append (bytesOf s) (drop (length s / 2) held), length-bytes s, length-drop (length s / 2) held)
 
 last-fit : (s held : List ℕ) → Fit (readLast s held)
 unfolding readLast
 last-fit s held =
-    either (ltb (length (nextField s)) (length (drop 1 s))) _ _ (zero-le) λ b.
+    either Fit (ltb (length (nextField s)) (length (drop 1 s))) _ _ (zero-le) λ b.
     bytes-fit (drop 1 s) held
 
 abbrev pub CallLends : Call → Type 0
@@ -110,10 +103,6 @@ record Fits (c : Called) : Type 0 where
   count : countOf (c .call) ≤ length (c .buffer)
   lends : CallLends (c .call)
 
-either-call : (test : Bool) (d e : Called) → Fits d → Fits e → Fits (cond test d e)
-either-call true d e p q = p
-either-call false d e p q = q
-
 wrong-fits : (fault : Fault) (held : List ℕ) → Fits (called (Wrong fault) held)
 wrong-fits fault held = record { count = zero-le; lends = tt }
 
@@ -122,19 +111,19 @@ bytes-call : (make : ℕ → Call) → ((n : ℕ) → countOf (make n) ≡ n) �
 bytes-call make same lends (Count n) held h = record { count = rw (same n) h; lends = lends n }
 bytes-call make same lends (WrongBytes fault) held h = wrong-fits fault held
 
-parse-fits : (found : SourceRead) (s held : List ℕ) → Fits (parseCall found s held)
+parse-fits : (found : SourceRead) (s held : List ℕ) → Fits (askedOf parseOf found s held)
 parse-fits (TheSource source) s held =
     let d = readLast (behindSource source s) held in
     bytes-call (Parse source) (λ n. refl) (λ n. tt) (d .answer) (d .buffer) (last-fit (behindSource source s) held)
 parse-fits (WrongSource fault) s held = wrong-fits fault held
 
-sized-fits : (source : Source) (found : SizesRead) (s held : List ℕ) → AllBelow found → Fits (listOf source found s held)
+sized-fits : (source : Source) (found : SizesRead) (s held : List ℕ) → AllBelow found → Fits (listWith source found s held)
 sized-fits source (TheSizes z) s held l =
     let d = readBytes (nextField s) held in
     bytes-call (λ n. ListCall source n z) (λ n. refl) (λ n. l) (d .answer) (d .buffer) (bytes-fit (nextField s) held)
 sized-fits source (WrongSizes fault) s held l = wrong-fits fault held
 
-list-fits : (found : SourceRead) (s held : List ℕ) → Fits (listCall found s held)
+list-fits : (found : SourceRead) (s held : List ℕ) → Fits (askedOf listOf found s held)
 list-fits (TheSource source) s held =
     sized-fits source (readSizes (behindNext (behindSource source s))) (behindSource source s) held (sizes-below (behindNext (behindSource source s)))
 list-fits (WrongSource fault) s held = wrong-fits fault held
@@ -142,8 +131,9 @@ list-fits (WrongSource fault) s held = wrong-fits fault held
 call-fits : (line held : List ℕ) → Fits (readCall line held)
 unfolding readCall
 call-fits line held =
-    either-call (eqb (length line) 0) _ _ (wrong-fits EmptyLine held)
-    (either-call (isByte 76 (fieldOf line)) _ _ (list-fits (readSource (drop 1 (behindField line))) (drop 1 (behindField line)) held) (parse-fits (readSource line) line held))
+    either Fits (eqb (length line) 0) _ _ (wrong-fits EmptyLine held) λ a.
+    either Fits (isByte 76 (fieldOf line)) _ _ (list-fits (readSource (drop 1 (behindField line))) (drop 1 (behindField line)) held) λ b.
+    parse-fits (readSource line) line held
 
 module _ (line held : List ℕ) {call : Call} {m : List ℕ} (e : called call m ≡ readCall line held) where
   pub count-within : countOf call ≤ length m

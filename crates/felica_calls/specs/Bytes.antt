@@ -44,7 +44,7 @@ pub record Decoded : Type 0 where
 abbrev pub decoded : Bytes → List ℕ → Decoded
 decoded answer buffer = record { answer = answer; buffer = buffer }
 
--- "`-` is empty"
+-- `-` is no bytes
 unfoldable pub readBytes : List ℕ → List ℕ → Decoded
 readBytes s buffer =
     cond (eqb (length s) 0) (decoded (WrongBytes MissingField) buffer)

@@ -37,26 +37,29 @@ withBytes make d = called (callIs (d .answer)) (d .buffer)
     callIs (Count n) = make n
     callIs (WrongBytes fault) = Wrong fault
 
--- a call of the parser: the bytes are its last field
-abbrev pub parseCall : SourceRead → List ℕ → List ℕ → Called
-parseCall (TheSource source) s buffer = withBytes (Parse source) (readLast (behindSource source s) buffer)
-parseCall (WrongSource fault) s buffer = called (Wrong fault) buffer
+-- what is asked of a source, by what follows it
+abbrev pub askedOf : (Source → List ℕ → List ℕ → Called) → SourceRead → List ℕ → List ℕ → Called
+askedOf ask (TheSource source) s buffer = ask source (behindSource source s) buffer
+askedOf ask (WrongSource fault) s buffer = called (Wrong fault) buffer
 
--- "list reader with buffers of those lengths": the lengths, behind the bytes, are looked at first
-abbrev pub listOf : Source → SizesRead → List ℕ → List ℕ → Called
-listOf source (TheSizes z) s buffer = withBytes (λ n. ListCall source n z) (readBytes (nextField s) buffer)
-listOf source (WrongSizes fault) s buffer = called (Wrong fault) buffer
+-- of the parser: the bytes are the last field
+abbrev pub parseOf : Source → List ℕ → List ℕ → Called
+parseOf source s buffer = withBytes (Parse source) (readLast s buffer)
 
-abbrev pub listCall : SourceRead → List ℕ → List ℕ → Called
-listCall (TheSource source) s buffer = listOf source (readSizes (behindNext (behindSource source s))) (behindSource source s) buffer
-listCall (WrongSource fault) s buffer = called (Wrong fault) buffer
+-- of the list reader: the bytes, and behind them the lengths of its buffers, which are looked at first
+abbrev pub listWith : Source → SizesRead → List ℕ → List ℕ → Called
+listWith source (TheSizes z) s buffer = withBytes (λ n. ListCall source n z) (readBytes (nextField s) buffer)
+listWith source (WrongSizes fault) s buffer = called (Wrong fault) buffer
 
--- a line
+abbrev pub listOf : Source → List ℕ → List ℕ → Called
+listOf source s buffer = listWith source (readSizes (behindNext s)) s buffer
+
+-- a line, and what the buffer for the bytes holds before and after
 unfoldable pub readCall : List ℕ → List ℕ → Called
 readCall line buffer =
     cond (eqb (length line) 0) (called (Wrong EmptyLine) buffer)
-    (cond (isByte (code "L") (fieldOf line)) (listCall (readSource (drop 1 (behindField line))) (drop 1 (behindField line)) buffer)
-    (parseCall (readSource line) line buffer))
+    (cond (isByte (code "L") (fieldOf line)) (askedOf listOf (readSource (drop 1 (behindField line))) (drop 1 (behindField line)) buffer)
+    (askedOf parseOf (readSource line) line buffer))
 
 -- the bytes of a call
 abbrev pub countOf : Call → ℕ

@@ -1,4 +1,4 @@
--- "buffers of those lengths": five numbers, the lengths of the buffers that the list reader is lent.
+-- The five numbers behind a call of the list reader: the lengths of the buffers that it is lent.
 -- Assumes nothing.
 use Prim.Native.Nat.{ℕ, _≤_}
 use mathlib.Core.Bool.{cond}

@@ -27,7 +27,7 @@ abbrev pub secureSource : Code → SourceRead
 secureSource (TheCode c) = TheSource (Secure c)
 secureSource (WrongCode fault) = Wrong fault
 
--- "frame, payload, secure code with payload"
+-- by the name
 unfoldable pub readSource : List ℕ → SourceRead
 readSource s =
     cond (eqb (length s) 0) (Wrong MissingField)

@@ -1,10 +1,9 @@
-// A line as a call: a letter, then fields, each behind one space. The bytes of a call go to a lent buffer.
+// A line as a call: a name, then fields, each behind one space. The bytes of a call go to a lent buffer.
 ghost use mathlib.Core.Path.{_≡_};
 ghost use Rattle.felica_calls.specs.Source.{readSource};
-ghost use Rattle.felica_calls.specs.Sizes.{readSizes};
-ghost use Rattle.felica_calls.specs.Field.{nextField, behindNext};
-ghost use Rattle.felica_calls.specs.Bytes.{readLast, readBytes};
-ghost use Rattle.felica_calls.specs.Call.{called, readCall, parseCall, listCall, listOf, withBytes};
+ghost use Rattle.felica_calls.specs.Field.{nextField};
+ghost use Rattle.felica_calls.specs.Bytes.{readBytes};
+ghost use Rattle.felica_calls.specs.Call.{called, readCall, askedOf, parseOf, listOf, withBytes};
 use crate::bytes::Bytes;
 use crate::bytes::read_bytes;
 use crate::bytes::read_last;
@@ -46,7 +45,7 @@ pub fn read_call(line: &[u8], bytes: &mut [u8]) -> Call
 
 // A call of the parser.
 fn read_parse(text: &[u8], bytes: &mut [u8]) -> Call
-    ensures { λ r. ⌜ called r (now (bytes .exit)) ≡ parseCall (readSource (now (text .entry))) (now (text .entry)) (now (bytes .entry)) ⌝ }
+    ensures { λ r. ⌜ called r (now (bytes .exit)) ≡ askedOf parseOf (readSource (now (text .entry))) (now (text .entry)) (now (bytes .entry)) ⌝ }
 {
     let found = read_source(text);
     match found {
@@ -56,7 +55,7 @@ fn read_parse(text: &[u8], bytes: &mut [u8]) -> Call
 }
 
 fn parse_last(source: Source, rest: &[u8], bytes: &mut [u8]) -> Call
-    ensures { λ r. ⌜ called r (now (bytes .exit)) ≡ withBytes (Call.Parse source) (readLast (now (rest .entry)) (now (bytes .entry))) ⌝ }
+    ensures { λ r. ⌜ called r (now (bytes .exit)) ≡ parseOf source (now (rest .entry)) (now (bytes .entry)) ⌝ }
 {
     let read = read_last(rest, bytes);
     match read {
@@ -67,7 +66,7 @@ fn parse_last(source: Source, rest: &[u8], bytes: &mut [u8]) -> Call
 
 // A call of the parser, then the lengths of the buffers for its lists.
 fn read_list(text: &[u8], bytes: &mut [u8]) -> Call
-    ensures { λ r. ⌜ called r (now (bytes .exit)) ≡ listCall (readSource (now (text .entry))) (now (text .entry)) (now (bytes .entry)) ⌝ }
+    ensures { λ r. ⌜ called r (now (bytes .exit)) ≡ askedOf listOf (readSource (now (text .entry))) (now (text .entry)) (now (bytes .entry)) ⌝ }
 {
     let found = read_source(text);
     match found {
@@ -78,7 +77,7 @@ fn read_list(text: &[u8], bytes: &mut [u8]) -> Call
 
 // No byte is read before the lengths are seen to be right.
 fn list_behind(source: Source, rest: &[u8], bytes: &mut [u8]) -> Call
-    ensures { λ r. ⌜ called r (now (bytes .exit)) ≡ listOf source (readSizes (behindNext (now (rest .entry)))) (now (rest .entry)) (now (bytes .entry)) ⌝ }
+    ensures { λ r. ⌜ called r (now (bytes .exit)) ≡ listOf source (now (rest .entry)) (now (bytes .entry)) ⌝ }
 {
     let found = read_sizes(behind_next(rest));
     match found {

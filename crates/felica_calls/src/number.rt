@@ -20,7 +20,7 @@ impl Number {
     }
 }
 
-// A field as a length of at most `most`. No more digits are read than it takes to pass that.
+// A field as a length of at most `most`. Digits are added up only until they pass it, so that no sum overflows.
 pub(crate) fn read_number(field: &[u8], most: usize) -> Number
     ensures { λ r. ⌜ r ≡ readNumber most (now (field .entry)) ⌝ }
 {

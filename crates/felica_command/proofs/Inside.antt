@@ -23,7 +23,7 @@ use Rattle.felica_command.specs.declared.command.Part.{Part}
 use Rattle.felica_command.specs.Meaning.{elementsAt}
 use Rattle.felica_command.specs.Places.{idmSize, selectorSize, codesPart, codesSize, elementSize, elementsSize, blocksPart, blocksSize, dataPart}
 use Rattle.felica_command.specs.Places.{packagePart, layoutPlaces, noPlaces, readPlaces}
-use Rattle.felica_command.specs.Places.{Inside, PayloadInside, SecureInside}
+use Rattle.felica_command.specs.Places.{ElementsInside, Inside, PayloadInside, SecureInside}
 
 -- r is what stands behind the first n bytes of l, and these are there
 abbrev pub Leaves : ℕ → List ℕ → List ℕ → Type 0
@@ -141,7 +141,7 @@ each-whole (suc n) l h =
     let rest = each-whole n (drop size l) (rw length-drop (omega arith)) in
     (first .0 ∷ rest .0, rw (first .1, rest .1) (ap (λ (t : List ℕ). taken (first .0 ∷ rest .0) t) (drop-drop (elementsSize n (drop size l)) size l)))
 
-pub elements-counted : (s : List ℕ) (p : Part) → p .start + elementsSize (p .count) (drop (p .start) s) ≤ length s → length (elementsAt s p) ≡ p .count
+pub elements-counted : (s : List ℕ) (p : Part) → ElementsInside s p → length (elementsAt s p) ≡ p .count
 elements-counted s p h =
     let whole = each-whole (p .count) (drop (p .start) s) (rw length-drop (omega arith)) in
     rw (whole .1) (each-leaves (p .count) (drop (p .start) s) (whole .0) _ (whole .1) .1)

@@ -118,14 +118,19 @@ readPlaces at s (refused n code) = noPlaces
 abbrev pub Account : List ℕ → ℕ → Reading → Parsed → Type 0
 Account s at reading r = (meaning s r ≡ reading) × (placesOf r ≡ readPlaces at s reading) × Canonical r
 
--- each part lies inside the payload s
+-- a part of codes, of elements, of bytes lies inside the payload s
+abbrev pub CodesInside : List ℕ → Part → Type 0
+CodesInside s p = p .start + 2 * p .count ≤ length s
+
+abbrev pub ElementsInside : List ℕ → Part → Type 0
+ElementsInside s p = p .start + elementsSize (p .count) (drop (p .start) s) ≤ length s
+
+abbrev pub BytesInside : List ℕ → Part → Type 0
+BytesInside s p = p .start + p .count ≤ length s
+
 abbrev pub Inside : List ℕ → Places → Type 0
 Inside s q =
-    (q .first .start + 2 * q .first .count ≤ length s)
-    × (q .second .start + 2 * q .second .count ≤ length s)
-    × (q .elements .start + elementsSize (q .elements .count) (drop (q .elements .start) s) ≤ length s)
-    × (q .blockData .start + q .blockData .count ≤ length s)
-    × (q .issuePackage .start + q .issuePackage .count ≤ length s)
+    CodesInside s (q .first) × CodesInside s (q .second) × ElementsInside s (q .elements) × BytesInside s (q .blockData) × BytesInside s (q .issuePackage)
 
 -- The places that the definitions settle lie inside the payload (proofs/Inside.antt).
 abbrev pub PayloadInside : Type 0

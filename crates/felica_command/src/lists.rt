@@ -7,7 +7,7 @@ use crate::command::Part;
 
 // A list that the command lacks is the part of no entries at 0.
 pub struct Lists {
-    // Of Authentication1 the areas.
+    // The code list; of Authentication1 the areas.
     pub first_codes: Part,
     // The services of Authentication1.
     pub second_codes: Part,

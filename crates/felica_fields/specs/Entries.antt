@@ -22,7 +22,7 @@ abbrev pub codeRead : List ℕ → CodeRead → Step ℕ
 codeRead s (Code code next) = taken code (drop next s)
 codeRead s NoCode = refuse 13
 
--- "`blocks` are triples number/place/mode, four, one and one digits"; 47 is the code of `/`
+-- number/place/mode, in four, one and one digits; 47 is the code of `/`
 abbrev pub elementText : Element → List ℕ
 elementText e = wordText (e .number) ++ (47 ∷ digitText (e .place % 16) ∷ 47 ∷ digitText (e .mode % 16) ∷ [])
 

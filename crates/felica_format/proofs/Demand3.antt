@@ -7,7 +7,7 @@ use mathlib.Core.Path.{_≡_, refl, sym, ap, _∙_, subst}
 use mathlib.Core.Logic.{_⊎_, inl, inr, _≢_}
 use mathlib.Core.Bool.{Bool, true, false, cond, true≢false}
 use mathlib.Core.List.{List, [], _∷_, _++_, append-nil, append-assoc}
-use mathlib.Core.Option.{Option, none, some}
+use mathlib.Core.Option.{none, some}
 use lib.ListN.{length, length-append}
 use lib.Dec.{eqb}
 use borrow.Author.Tests.{eqb-true, eq-eqb, leb-true, le-leb}
@@ -22,6 +22,7 @@ use Rattle.felica_format.specs.Writable.{bodyOk, fitsClass, writable, sh
 use Rattle.felica_format.specs.Demand3.{FrameGives, PayloadGives, HasFrame, HasPayload, MayFollow, Around, FramesAreChoices, PayloadsAreChoices}
 use Rattle.felica_format.specs.Demand3.{ShortFrameAccepted, ShortPayloadAccepted, OtherFramesLonger, OtherPayloadsLonger}
 use Rattle.felica_format.specs.Demand3.{ShortFrameWritten, ShortPayloadWritten, UnwritableExactly, FrameReadBack, PayloadReadBack, TwoFrames, TwoPayloads, OneFormFrom256}
+use Rattle.felica_format.proofs.Steps.{not-given}
 use Rattle.felica_format.proofs.Tests.{tests, and-left, and-right, and-both}
 use Rattle.felica_format.proofs.Bytes.{allBelow-++, head-below}
 use Rattle.felica_format.proofs.Elements.{by-form, SameOrLonger}
@@ -30,9 +31,6 @@ use Rattle.felica_format.proofs.Body.{Narrow, Body, body-back, body-onl
 use Rattle.felica_format.proofs.Rows.{plain-code, plain-layout, secure-layout, plain-left, secure-left, secure-follows}
 
 -- ── what was accepted ───────────────────────────────────────────────────────
-not-given : {n : ℕ} {code : Option ℕ} {c : Command} → refused n code ≡ gives c → ⊥
-not-given e = let z : _≡_ {A = ℕ} 0 1 = cc in omega arith
-
 answer-gives : (code : ℕ) (m : Step Command) (c : Command) → answerOf code m ≡ gives c → (rest : List ℕ) × (m ≡ taken c rest)
 answer-gives code (taken d rest) c e = (rest, cc)
 answer-gives code (refuse n) c e = absurd (not-given e)

@@ -5,7 +5,10 @@ use native.Mathlib.Omega.{arith}
 use mathlib.Core.Path.{_≡_, refl}
 use mathlib.Core.Bool.{Bool, true, false}
 use mathlib.Core.List.{List}
+use mathlib.Core.Option.{Option}
 use Rattle.felica_format.specs.Basic.{Step, taken, refuse, bind, refuseIf}
+use Rattle.felica_format.specs.Command.{Command}
+use Rattle.felica_format.specs.Read.{gives, refused}
 
 pub taken-value : {A : Type 0} {a b : A} {r t : List ℕ} → taken a r ≡ taken b t → a ≡ b
 taken-value e = cc
@@ -41,3 +44,7 @@ bind-taken (refuse n) next e = absurd (none-taken e)
 pub bind-step : {A B : Type 0} (m : Step A) (next : A → List ℕ → Step B) {a : A} {r : List ℕ} → m ≡ taken a r → bind m next ≡ next a r
 unfolding bind
 bind-step m next e = rw e
+
+-- an answer that refuses gives no command
+pub not-given : {n : ℕ} {code : Option ℕ} {c : Command} → refused n code ≡ gives c → ⊥
+not-given e = let z : _≡_ {A = ℕ} 0 1 = cc in omega arith

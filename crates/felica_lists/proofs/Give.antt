@@ -18,6 +18,7 @@ use Rattle.felica_command.specs.declared.command.Parsed.{Parsed}
 use Rattle.felica_command.specs.declared.lists.Lists.{Lists}
 use Rattle.felica_command.proofs.Inside.{none-inside}
 use Rattle.felica_lists.specs.Lists.{Buffers, fits, outcome, listed}
+use Rattle.felica_lists.specs.Rules.{ListAccount}
 use Rattle.felica_lists.specs.Fill.{listsAt, ListsInside, filled, fill, Given, given, giveFilled, giveAnswer, give}
 
 -- a refusal of the parser
@@ -41,9 +42,7 @@ command-given s p b {kind} {l} {done} {after} e is did result =
 
 -- what the contract says of a result and the buffers behind it
 abbrev Told : List ℕ → ℕ → Reading → Buffers → Given → Type 0
-Told s at reading b g =
-    (outcome (meaning s (g .result)) (g .buffers) ≡ listed reading b) × (placesOf (g .result) ≡ readPlaces at s (meaning s (g .result)))
-    × Canonical (g .result) × Inside s (placesOf (g .result))
+Told s at reading b g = ListAccount s at reading b (g .result) (g .buffers)
 
 refusal-told : (why : Refusal) (b : Buffers) → outcome (refusalIs why) b ≡ listed (refusalIs why) b
 refusal-told (Number n) b = refl

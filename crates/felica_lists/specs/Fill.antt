@@ -1,12 +1,11 @@
 -- The steps of the list reader: the lists of a command's parts, written where every buffer has room, and the result that goes with them.
 -- Assumes nothing.
-use Prim.Native.Nat.{ℕ, _+_, _*_, _≤_}
+use Prim.Native.Nat.{ℕ}
 use mathlib.Core.Bool.{Bool, true, false, cond}
 use mathlib.Core.List.{List, map}
 use mathlib.Core.Option.{some}
-use lib.ListN.{length, drop}
 use Rattle.felica_command.specs.Meaning.{codesAt, elementsAt, fieldsOf, refusal}
-use Rattle.felica_command.specs.Places.{elementsSize}
+use Rattle.felica_command.specs.Places.{CodesInside, ElementsInside}
 use Rattle.felica_command.specs.Lists.{listsIn}
 use Rattle.felica_command.specs.declared.command.Part.{Part}
 use Rattle.felica_command.specs.declared.command.Answer.{Answer}
@@ -31,15 +30,9 @@ listsAt s l =
     buffers (codesAt s (l .«first_codes»)) (codesAt s (l .«second_codes»)) (numbersAt s (l .«block_list»)) (placesAt s (l .«block_list»))
     (modesAt s (l .«block_list»))
 
--- the codes of a part, the elements of a part, all lists of a command stand inside the payload s
-abbrev pub CodesInside : List ℕ → Part → Type 0
-CodesInside s p = p .start + 2 * p .count ≤ length s
-
-abbrev pub BlocksInside : List ℕ → Part → Type 0
-BlocksInside s p = p .start + elementsSize (p .count) (drop (p .start) s) ≤ length s
-
+-- all lists of a command lie inside the payload s
 abbrev pub ListsInside : List ℕ → Lists → Type 0
-ListsInside s l = CodesInside s (l .«first_codes») × CodesInside s (l .«second_codes») × BlocksInside s (l .«block_list»)
+ListsInside s l = CodesInside s (l .«first_codes») × CodesInside s (l .«second_codes») × ElementsInside s (l .«block_list»)
 
 -- whether all lists are written, and the buffers
 pub record Filled : Type 0 where
@@ -52,7 +45,7 @@ filled done b = record { done = done; buffers = b }
 abbrev pub fill : Buffers → Buffers → Filled
 fill lists b = cond (fits lists b) (filled true (fronts lists b)) (filled false b)
 
--- a result of the parser, and the one that the list reader makes of it
+-- a result, and the buffers that go with it
 pub record Given : Type 0 where
   pub result : Parsed
   pub buffers : Buffers
@@ -60,6 +53,7 @@ pub record Given : Type 0 where
 abbrev pub given : Parsed → Buffers → Given
 given result b = record { result = result; buffers = b }
 
+-- what the list reader makes of a result of the parser
 abbrev pub giveFilled : Parsed → ℕ → Filled → Given
 giveFilled parsed code f = given (cond (f .done) parsed (refusal 21 (some code))) (f .buffers)
 

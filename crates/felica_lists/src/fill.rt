@@ -3,8 +3,9 @@ ghost use mathlib.Core.Path.{_≡_};
 ghost use Prim.Native.Nat.{_≤_};
 ghost use lib.ListN.{length};
 ghost use Rattle.felica_command.specs.Meaning.{codesAt};
+ghost use Rattle.felica_command.specs.Places.{CodesInside, ElementsInside};
 ghost use Rattle.felica_lists.specs.Lists.{buffers, front};
-ghost use Rattle.felica_lists.specs.Fill.{numbersAt, placesAt, modesAt, listsAt, CodesInside, BlocksInside, ListsInside, filled, fill as filling};
+ghost use Rattle.felica_lists.specs.Fill.{numbersAt, placesAt, modesAt, listsAt, ListsInside, filled, fill as filling};
 use felica_command::command::Part;
 use felica_command::lists::Lists;
 use felica_cursor::answers::ElementTaken;
@@ -63,7 +64,7 @@ fn fill_codes(payload: &[u8], list: Part, out: &mut [u16])
 }
 
 fn fill_blocks(payload: &[u8], list: Part, numbers: &mut [u16], places: &mut [u8], modes: &mut [u8])
-    requires { ⌜ BlocksInside (now payload) list × (list .count ≤ length (now numbers)) × (list .count ≤ length (now places)) × (list .count ≤ length (now modes)) ⌝ }
+    requires { ⌜ ElementsInside (now payload) list × (list .count ≤ length (now numbers)) × (list .count ≤ length (now places)) × (list .count ≤ length (now modes)) ⌝ }
     ensures { λ _. ⌜ (now (numbers .exit) ≡ front (numbersAt (now (payload .entry)) list) (now (numbers .entry))) × (now (places .exit) ≡ front (placesAt (now (payload .entry)) list) (now (places .entry))) × (now (modes .exit) ≡ front (modesAt (now (payload .entry)) list) (now (modes .entry))) ⌝ }
 {
     let blocks = list.count;

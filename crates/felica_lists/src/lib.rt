@@ -1,5 +1,6 @@
 // The list reader. It parses, then writes first codes, second codes, block numbers, service places and access modes to the front of five lent buffers. Where one
-// is shorter than its list, it gives 21 and writes nothing.
+// is shorter than its list, it gives 21 and writes nothing. In the contracts the buffer `places` has the elements' places in the service list; `placesOf` and
+// `readPlaces` say where the parts of the result stand.
 ghost use mathlib.Core.Path.{_≡_};
 ghost use lib.ListN.{drop};
 ghost use Rattle.felica_format.specs.Read.{readFrame, readPayload, readSecure};

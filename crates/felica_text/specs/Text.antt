@@ -14,7 +14,7 @@ abbrev pub text : String → List ℕ
 text noText = []
 text (c then s) = code c ∷ text s
 
--- "Hexadecimal in capitals": the digit of a number below 16, and the number of a digit. 48 to 57 are the codes of 0 to 9, 65 to 70 of A to F.
+-- Hexadecimal in capitals: the digit of a number below 16, and the number of a digit. 48 to 57 are the codes of 0 to 9, 65 to 70 of A to F.
 abbrev pub digitText : ℕ → ℕ
 digitText n = cond (ltb n 10) (48 + n) (55 + n)
 
@@ -33,7 +33,7 @@ unfoldable pub digitsText : List ℕ → List ℕ
 digitsText [] = []
 digitsText (b ∷ bs) = byteText b ++ digitsText bs
 
--- "`-` is empty"
+-- `-` is no bytes
 unfoldable pub bytesText : List ℕ → List ℕ
 bytesText [] = text "-"
 bytesText (b ∷ bs) = digitsText (b ∷ bs)
@@ -48,7 +48,7 @@ module _ {A : Type 0} (entry : A → List ℕ) where
   behindCommas [] = []
   behindCommas (a ∷ rest) = 44 ∷ (entry a ++ behindCommas rest)
 
-  -- a list: entries parted by commas, and "`-` is empty"
+  -- a list: entries parted by commas, and `-` for none
   unfoldable pub parted : List A → List ℕ
   parted [] = text "-"
   parted (a ∷ rest) = entry a ++ behindCommas rest

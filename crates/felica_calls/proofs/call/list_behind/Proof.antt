@@ -3,7 +3,7 @@
 use mathlib.Core.Path.{sym, ap, _∙_}
 use denote.Ref.{now}
 use Rattle.felica_calls.specs.Sizes.{readSizes}
-use Rattle.felica_calls.specs.Call.{listOf}
+use Rattle.felica_calls.specs.Call.{listWith}
 use borrow.Author.Needs.{needs}
 use Rattle.felica_calls.proofs.call.list_behind.Statement.{statement}
 use Rattle.felica_calls.proofs.call.list_behind.Tie as tie
@@ -29,12 +29,12 @@ same-length c = search needs
 returns : tie.Need-returns
 returns c = let a = c .before .before .before .before .before .before .before .before .before .before .before .args in
     let sizes = ap readSizes (sym (c .before .before .before .before .before .before .before .before .behind-next .ensures)) ∙ sym (c .before .before .before .before .before .before .before .read-sizes .ensures) ∙ c .before .before .before .before .before .found .given .1 in
-    c .before .before .list-next .ensures ∙ sym (ap (λ f. listOf (a .source) f (now (a .rest)) (now (a .bytes))) sizes)
+    c .before .before .list-next .ensures ∙ sym (ap (λ f. listWith (a .source) f (now (a .rest)) (now (a .bytes))) sizes)
 
 returns-2 : tie.Need-returns-2
 returns-2 c = let a = c .before .before .before .before .before .before .before .args in
     let sizes = ap readSizes (sym (c .before .before .before .before .behind-next .ensures)) ∙ sym (c .before .before .before .read-sizes .ensures) ∙ c .before .found2 .given .1 in
-    sym (ap (λ f. listOf (a .source) f (now (a .rest)) (now (a .bytes))) sizes)
+    sym (ap (λ f. listWith (a .source) f (now (a .rest)) (now (a .bytes))) sizes)
 
 pub list-behind-spec : {M : Type 1} → statement M
 list-behind-spec =

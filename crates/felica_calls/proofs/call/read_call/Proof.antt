@@ -6,7 +6,7 @@ use denote.Ref.{now}
 use lib.ListN.{drop}
 use Rattle.felica_calls.specs.Field.{isByte}
 use Rattle.felica_calls.specs.Source.{readSource}
-use Rattle.felica_calls.specs.Call.{listCall, readCall}
+use Rattle.felica_calls.specs.Call.{askedOf, listOf, readCall}
 use Rattle.felica_calls.proofs.Calls.{line-list, line-parse}
 use borrow.Author.Needs.{needs}
 use Rattle.felica_calls.proofs.call.read_call.Statement.{statement}
@@ -38,7 +38,7 @@ returns-2 : tie.Need-returns-2
 returns-2 c = let a = c .before .before .before .before .before .before .before .before .before .before .before .before .args in
     let name = ap (isByte 76) (sym (c .before .before .before .before .before .before .before .before .field-of .ensures)) ∙ sym (c .before .before .before .before .before .before .before .is-byte .ensures) ∙ c .before .before .before .before .before .before .if2 .taken in
     let text = c .before .before .before .before .behind-space .ensures ∙ ap (drop 1) (c .before .before .before .before .before .behind-field .ensures) in
-    c .before .before .read-list .ensures ∙ ap (λ t. listCall (readSource t) t (now (a .bytes))) text ∙ sym (line-list _ _ (c .before .before .before .before .before .before .before .before .before .if1 .left) name)
+    c .before .before .read-list .ensures ∙ ap (λ t. askedOf listOf (readSource t) t (now (a .bytes))) text ∙ sym (line-list _ _ (c .before .before .before .before .before .before .before .before .before .if1 .left) name)
 
 read-parse-requires : tie.Need-read-parse-requires
 read-parse-requires c κs = search needs

@@ -2,7 +2,7 @@
 -- Assumes nothing.
 use mathlib.Core.Path.{sym, ap, _∙_}
 use denote.Ref.{now}
-use Rattle.felica_calls.specs.Call.{listCall}
+use Rattle.felica_calls.specs.Call.{askedOf, listOf}
 use borrow.Author.Needs.{needs}
 use Rattle.felica_calls.proofs.call.read_list.Statement.{statement}
 use Rattle.felica_calls.proofs.call.read_list.Tie as tie
@@ -28,12 +28,12 @@ same-length c = search needs
 returns : tie.Need-returns
 returns c = let a = c .before .before .before .before .before .before .before .before .before .before .before .args in
     let source = sym (c .before .before .before .before .before .before .before .before .read-source .ensures) ∙ c .before .before .before .before .before .before .found .given .1 in
-    rw (c .before .before .before .before .behind-source .ensures) at (c .before .before .list-behind .ensures) ∙ sym (ap (λ f. listCall f (now (a .text)) (now (a .bytes))) source)
+    rw (c .before .before .before .before .behind-source .ensures) at (c .before .before .list-behind .ensures) ∙ sym (ap (λ f. askedOf listOf f (now (a .text)) (now (a .bytes))) source)
 
 returns-2 : tie.Need-returns-2
 returns-2 c = let a = c .before .before .before .before .before .before .args in
     let source = sym (c .before .before .before .read-source .ensures) ∙ c .before .found2 .given .1 in
-    sym (ap (λ f. listCall f (now (a .text)) (now (a .bytes))) source)
+    sym (ap (λ f. askedOf listOf f (now (a .text)) (now (a .bytes))) source)
 
 pub read-list-spec : {M : Type 1} → statement M
 read-list-spec =

@@ -9,15 +9,16 @@ use lib.ListN.{length, length-map}
 use Rattle.felica_format.specs.Command.{Element}
 use Rattle.felica_command.specs.Meaning.{elementsAt}
 use Rattle.felica_command.specs.declared.command.Part.{Part}
+use Rattle.felica_command.specs.Places.{ElementsInside}
 use Rattle.felica_command.proofs.Inside.{wordsOf-length, elements-counted}
 use Rattle.felica_lists.specs.Lists.{buffers}
-use Rattle.felica_lists.specs.Fill.{listsAt, BlocksInside}
+use Rattle.felica_lists.specs.Fill.{listsAt}
 use Rattle.felica_lists.proofs.Room.{Room, first, second, numbers, places, modes, none-filled, all-filled}
 use Rattle.felica_lists.proofs.fill.fill.Statement.{statement}
 use Rattle.felica_lists.proofs.fill.fill.Tie as tie
 
 -- a value of each element of a block list
-counted : (s : List ℕ) (p : Part) (f : Element → ℕ) → BlocksInside s p → length (map f (elementsAt s p)) ≡ p .count
+counted : (s : List ℕ) (p : Part) (f : Element → ℕ) → ElementsInside s p → length (map f (elementsAt s p)) ≡ p .count
 counted s p f inside = length-map (elementsAt s p) f ∙ elements-counted s p inside
 
 returns : tie.Need-returns
