@@ -1,6 +1,10 @@
 -- `felica::parse::answer_parse` writes the line of what the parser says.
 -- Assumes nothing.
 use borrow.Author.Needs.{needs}
+use mathlib.Core.Path.{ap, _∙_}
+use denote.Ref.{now}
+use Rattle.felica_text.specs.Put.{buffer, put}
+use Rattle.felica_answers.specs.Answer.{lineOf}
 use Rattle.felica.proofs.parse.answer_parse.Statement.{statement}
 use Rattle.felica.proofs.parse.answer_parse.Tie as tie
 
@@ -17,7 +21,11 @@ same-length : tie.Need-same-length
 same-length c = search needs
 
 returns : tie.Need-returns
-returns c = (c .before .before .before .before .before .parse .result, c .before .before .before .before .before .parse .ensures, rw (c .before .before .before .before .payload-in .ensures) at (c .before .before .put-answer .ensures))
+returns c =
+    let a = c .before .before .before .before .before .before .before .before .args in
+    let p = c .before .before .before .before .before .parse in
+    let line = ap (λ s. put (buffer (now (a .out)) (a .at)) (lineOf s (p .result))) (c .before .before .before .before .payload-in .ensures) in
+    (p .result, p .ensures, c .before .before .put-answer .ensures ∙ line)
 
 pub answer-parse-spec : {M : Type 1} → statement M
 answer-parse-spec =
