@@ -19,6 +19,8 @@ use felica_cursor::answers::WordTaken;
 use felica_cursor::answers::WordsTaken;
 use felica_cursor::cursor::Cursor;
 use felica_format::constants;
+use felica_format::constants::READ_WITHOUT_ENCRYPTION_COMMAND_CODE;
+use felica_format::constants::WRITE_WITHOUT_ENCRYPTION_COMMAND_CODE;
 
 // Rows of the table of bounds. The codes of `parse_code_list` have equal bounds, and the first one's row serves them all.
 const REQUEST_SERVICE_ROW: usize = 1;
@@ -111,31 +113,19 @@ pub(crate) fn parse_read_without_encryption(payload: &[u8]) -> Parsed
     let first = start.take_idm(payload);
     let step = first.step;
     let Moved::On(behind_idm) = step else {
-        return Parsed::refused(
-            step.ground(),
-            constants::READ_WITHOUT_ENCRYPTION_COMMAND_CODE,
-        );
+        return Parsed::refused(step.ground(), READ_WITHOUT_ENCRYPTION_COMMAND_CODE);
     };
     let listed = behind_idm.take_first_codes(payload, READ_WITHOUT_ENCRYPTION_ROW);
     let ListTaken::List(service_codes, behind_codes) = listed else {
-        return Parsed::refused(
-            listed.ground(),
-            constants::READ_WITHOUT_ENCRYPTION_COMMAND_CODE,
-        );
+        return Parsed::refused(listed.ground(), READ_WITHOUT_ENCRYPTION_COMMAND_CODE);
     };
     let elements = behind_codes.take_second_blocks(payload);
     let ListTaken::List(block_list, behind_blocks) = elements else {
-        return Parsed::refused(
-            elements.ground(),
-            constants::READ_WITHOUT_ENCRYPTION_COMMAND_CODE,
-        );
+        return Parsed::refused(elements.ground(), READ_WITHOUT_ENCRYPTION_COMMAND_CODE);
     };
     let end = behind_blocks.take_end(payload);
     let Moved::On(_) = end else {
-        return Parsed::refused(
-            end.ground(),
-            constants::READ_WITHOUT_ENCRYPTION_COMMAND_CODE,
-        );
+        return Parsed::refused(end.ground(), READ_WITHOUT_ENCRYPTION_COMMAND_CODE);
     };
     let idm = first.idm;
     Parsed {
@@ -155,38 +145,23 @@ pub(crate) fn parse_write_without_encryption(payload: &[u8]) -> Parsed
     let first = start.take_idm(payload);
     let step = first.step;
     let Moved::On(behind_idm) = step else {
-        return Parsed::refused(
-            step.ground(),
-            constants::WRITE_WITHOUT_ENCRYPTION_COMMAND_CODE,
-        );
+        return Parsed::refused(step.ground(), WRITE_WITHOUT_ENCRYPTION_COMMAND_CODE);
     };
     let listed = behind_idm.take_first_codes(payload, WRITE_WITHOUT_ENCRYPTION_ROW);
     let ListTaken::List(service_codes, behind_codes) = listed else {
-        return Parsed::refused(
-            listed.ground(),
-            constants::WRITE_WITHOUT_ENCRYPTION_COMMAND_CODE,
-        );
+        return Parsed::refused(listed.ground(), WRITE_WITHOUT_ENCRYPTION_COMMAND_CODE);
     };
     let elements = behind_codes.take_second_blocks(payload);
     let ListTaken::List(block_list, behind_blocks) = elements else {
-        return Parsed::refused(
-            elements.ground(),
-            constants::WRITE_WITHOUT_ENCRYPTION_COMMAND_CODE,
-        );
+        return Parsed::refused(elements.ground(), WRITE_WITHOUT_ENCRYPTION_COMMAND_CODE);
     };
     let bytes = behind_blocks.take_data(payload, block_list.count);
     let ListTaken::List(data, behind_data) = bytes else {
-        return Parsed::refused(
-            bytes.ground(),
-            constants::WRITE_WITHOUT_ENCRYPTION_COMMAND_CODE,
-        );
+        return Parsed::refused(bytes.ground(), WRITE_WITHOUT_ENCRYPTION_COMMAND_CODE);
     };
     let end = behind_data.take_end(payload);
     let Moved::On(_) = end else {
-        return Parsed::refused(
-            end.ground(),
-            constants::WRITE_WITHOUT_ENCRYPTION_COMMAND_CODE,
-        );
+        return Parsed::refused(end.ground(), WRITE_WITHOUT_ENCRYPTION_COMMAND_CODE);
     };
     let idm = first.idm;
     Parsed {
