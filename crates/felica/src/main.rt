@@ -1,6 +1,9 @@
 // Answers calls: reads them on standard input, a line each, and writes a line for each to standard output.
 ghost use Prim.Native.Nat.{_≤_};
 ghost use lib.ListN.{length};
+ghost use Rattle.felica_text.specs.Put.{buffer};
+ghost use Rattle.felica_calls.specs.Call.{readCall};
+ghost use Rattle.felica.specs.Answers.{Answered, LineAnswered};
 
 mod lists;
 mod parse;
@@ -38,7 +41,7 @@ struct State {
 
 // An empty line is answered too, so that there is a line for each line.
 fn answer_call(line: &[u8], bytes: &mut [u8], out: &mut [u8], at: usize) -> usize
-    ensures { λ r. ⌜ (at ≤ length (now (out .entry)) → r ≤ length (now (out .exit))) ⌝ }
+    ensures { λ r. ⌜ Answered (readCall (now (line .entry)) (now (bytes .entry))) (buffer (now (out .entry)) at) (buffer (now (out .exit)) r) ⌝ }
 {
     let call = read_call(line, bytes);
     match call {
@@ -49,7 +52,7 @@ fn answer_call(line: &[u8], bytes: &mut [u8], out: &mut [u8], at: usize) -> usiz
 }
 
 fn answer_line(line: &[u8], bytes: &mut [u8], out: &mut [u8], at: usize) -> usize
-    ensures { λ r. ⌜ (at ≤ length (now (out .entry)) → r ≤ length (now (out .exit))) ⌝ }
+    ensures { λ r. ⌜ LineAnswered (readCall (now (line .entry)) (now (bytes .entry))) (buffer (now (out .entry)) at) (buffer (now (out .exit)) r) ⌝ }
 {
     let next = answer_call(line, bytes, out, at);
     put_byte(out, next, b'\n')

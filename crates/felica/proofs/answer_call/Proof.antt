@@ -1,12 +1,24 @@
--- `felica::answer_call` stays within the output, and the bytes and the lengths of the call within their buffers.
+-- `felica::answer_call` answers what the line calls for.
 -- Assumes nothing.
-use mathlib.Core.Path.{sym}
+use mathlib.Core.Path.{_≡_, sym, ap, _∙_, subst}
+use mathlib.Core.List.{List}
+use Prim.Native.Nat.{ℕ}
 use lib.Seq.{length-take-le}
-use Rattle.felica_text.proofs.Laws.{put-within}
+use Rattle.felica_text.specs.Put.{Buffer}
+use Rattle.felica_calls.specs.Call.{Called, called}
+use Rattle.felica_calls.specs.declared.call.Call.{Call}
 use Rattle.felica_calls.proofs.Counts.{count-within, sizes-within}
+use Rattle.felica.specs.Answers.{AnswerTo, Answered}
 use borrow.Author.Needs.{needs}
 use Rattle.felica.proofs.answer_call.Statement.{statement}
 use Rattle.felica.proofs.answer_call.Tie as tie
+
+-- the call that was read, answered as what it is
+answered : {call found : Call} {bytes : List ℕ} {c : Called} (before after : Buffer) → call ≡ found → called call bytes ≡ c → AnswerTo found bytes before after
+    → Answered c before after
+unfolding Answered
+answered {bytes = bytes} before after is e answer =
+    subst (λ (c : Called). Answered c before after) (ap (λ (x : Call). called x bytes) (sym is) ∙ e) answer
 
 read-call-requires : tie.Need-read-call-requires
 read-call-requires c κs = search needs
@@ -48,7 +60,7 @@ same-length-2 : tie.Need-same-length-2
 same-length-2 c = search needs
 
 returns : tie.Need-returns
-returns c = put-within _ _ _ (c .before .before .answer-parse .ensures .2)
+returns c = answered _ _ (c .before .before .before .before .before .before .call .given .1) (c .before .before .before .before .before .before .before .before .before .before .read-call .ensures) (c .before .before .answer-parse .ensures)
 
 same-length-3 : tie.Need-same-length-3
 same-length-3 c = search needs
@@ -57,7 +69,7 @@ same-length-4 : tie.Need-same-length-4
 same-length-4 c = search needs
 
 returns-2 : tie.Need-returns-2
-returns-2 c = put-within _ _ _ (c .before .before .answer-list .ensures)
+returns-2 c = answered _ _ (c .before .before .before .before .before .before .call2 .given .1) (c .before .before .before .before .before .before .before .before .before .before .read-call .ensures) (c .before .before .answer-list .ensures)
 
 same-length-5 : tie.Need-same-length-5
 same-length-5 c = search needs
@@ -66,7 +78,7 @@ same-length-6 : tie.Need-same-length-6
 same-length-6 c = search needs
 
 returns-3 : tie.Need-returns-3
-returns-3 c = put-within _ _ _ (c .before .before .put-fault .ensures)
+returns-3 c = answered _ _ (c .before .before .before .before .before .call3 .given .1) (c .before .before .before .before .before .before .before .before .before .read-call .ensures) (c .before .before .put-fault .ensures)
 
 pub answer-call-spec : {M : Type 1} → statement M
 answer-call-spec =

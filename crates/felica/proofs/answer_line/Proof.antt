@@ -1,6 +1,6 @@
--- `felica::answer_line` stays within the output.
+-- `felica::answer_line` answers the line by a line.
 -- Assumes nothing.
-use Rattle.felica_text.proofs.Laws.{put-within}
+use Rattle.felica.specs.Answers.{LineAnswered}
 use borrow.Author.Needs.{needs}
 use Rattle.felica.proofs.answer_line.Statement.{statement}
 use Rattle.felica.proofs.answer_line.Tie as tie
@@ -18,7 +18,8 @@ same-length-2 : tie.Need-same-length-2
 same-length-2 c = search needs
 
 returns : tie.Need-returns
-returns c = λ h. put-within _ _ _ (c .before .before .put-byte .ensures) (c .before .before .before .before .before .before .before .before .answer-call .ensures h)
+unfolding LineAnswered
+returns c = (_, c .before .before .before .before .before .before .before .before .answer-call .ensures, c .before .before .put-byte .ensures)
 
 pub answer-line-spec : {M : Type 1} → statement M
 answer-line-spec =
