@@ -4,7 +4,7 @@ use Prim.Native.Nat.{ℕ, _+_, _≤_}
 use mathlib.Core.Path.{_≡_, refl, sym, ap, _∙_}
 use mathlib.Core.Bool.{Bool, true, false}
 use mathlib.Core.List.{List, _++_, map, append-assoc}
-use lib.ListN.{length, take, drop, length-map, length-replicate}
+use lib.ListN.{length, take, drop, length-replicate}
 use lib.Seq.{take-append-seam, length-take-le}
 use Rattle.felica_format.specs.Basic.{zeros}
 use Rattle.felica_format.specs.Command.{Command, Element}
@@ -15,7 +15,7 @@ use Rattle.felica_command.specs.Places.{elementsSize, answerPlaces, placesOf, I
 use Rattle.felica_command.specs.declared.command.Answer.{Answer}
 use Rattle.felica_command.specs.declared.command.Answer.the-variants.{Command as AnswerCommand, Refused as AnswerRefused}
 use Rattle.felica_command.specs.declared.command.Parsed.{Parsed}
-use Rattle.felica_command.proofs.Inside.{wordsOf-length, elements-counted}
+use Rattle.felica_command.proofs.Inside.{wordsOf-length, values-counted}
 use Rattle.felica_lists.specs.Lists.{Buffers, buffers, listsOf, fits, front, fronts, Outcome, outcome, listedIf, listed}
 use Rattle.felica_calls.specs.declared.sizes.Sizes.{Sizes}
 use Rattle.felica_answers.specs.Lists.{listsText, listLine, frontsText, listedText}
@@ -26,9 +26,6 @@ front-is : (list held rest : List ℕ) (n : ℕ) → length list ≡ n → take 
 front-is list held rest n e =
     ap (λ (k : ℕ). take k (front list held ++ rest)) (sym e) ∙ ap (take (length list)) (append-assoc list (drop (length list) held) rest)
     ∙ take-append-seam list (drop (length list) held ++ rest)
-
-values-are : (value : Element → ℕ) (es : List Element) (held rest : List ℕ) (n : ℕ) → length es ≡ n → take n (front (map value es) held ++ rest) ≡ map value es
-values-are value es held rest n e = front-is (map value es) held rest n (length-map es value ∙ e)
 
 gives-same : {c d : Command} → gives c ≡ gives d → c ≡ d
 gives-same e = cc
@@ -50,13 +47,12 @@ module _ (s : List ℕ) (b rest : Buffers) where
       (after .modes ++ rest .modes)
       ≡ listLine (gives (commandIs s idm challenge f))
   fields-line f idm challenge inside after e =
-      let counted = elements-counted s (f .elements) inside in
       let first = front-is (codesAt s (f .first)) (b .first) (rest .first) _ (wordsOf-length _ _) in
       let second = front-is (codesAt s (f .second)) (b .second) (rest .second) _ (wordsOf-length _ _) in
       let es = elementsAt s (f .elements) in
-      let numbers = values-are (λ e. e .number) es (b .numbers) (rest .numbers) _ counted in
-      let places = values-are (λ e. e .place) es (b .places) (rest .places) _ counted in
-      let modes = values-are (λ e. e .mode) es (b .modes) (rest .modes) _ counted in
+      let numbers = front-is (map (λ (e : Element). e .number) es) (b .numbers) (rest .numbers) _ (values-counted s (f .elements) (λ (e : Element). e .number) inside) in
+      let places = front-is (map (λ (e : Element). e .place) es) (b .places) (rest .places) _ (values-counted s (f .elements) (λ (e : Element). e .place) inside) in
+      let modes = front-is (map (λ (e : Element). e .mode) es) (b .modes) (rest .modes) _ (values-counted s (f .elements) (λ (e : Element). e .mode) inside) in
       rw e (same-lists _ first second numbers places modes)
 
   pub listed-line : (a : Answer) (idm challenge : List ℕ) (reading : Reading) (after : Buffers) → outcome (answerIs s idm challenge a) after ≡ listed reading b

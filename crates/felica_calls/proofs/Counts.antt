@@ -15,10 +15,9 @@ use Rattle.felica_calls.specs.Bytes.{allDigits, bytesOf, Decoded, decode
 use Rattle.felica_calls.specs.Source.{readSource, behindSource}
 use Rattle.felica_calls.specs.Call.{Called, called, withBytes, askedOf, parseOf, listWith, listOf, readCall, countOf}
 use Rattle.felica_calls.specs.declared.fault.Fault.{Fault}
-use Rattle.felica_calls.specs.declared.fault.Fault.the-variants.{EmptyLine, ExtraField}
+use Rattle.felica_calls.specs.declared.fault.Fault.the-variants.{EmptyLine}
 use Rattle.felica_calls.specs.declared.number.Number.{Number}
 use Rattle.felica_calls.specs.declared.number.Number.the-variants.{Number as TheNumber, Wrong as WrongNumber}
-use Rattle.felica_calls.specs.declared.sizes.Sizes.{Sizes}
 use Rattle.felica_calls.specs.declared.sizes.SizesRead.{SizesRead}
 use Rattle.felica_calls.specs.declared.sizes.SizesRead.the-variants.{Sizes as TheSizes, Wrong as WrongSizes}
 use Rattle.felica_calls.specs.declared.source.Source.{Source}

@@ -74,7 +74,7 @@ fn read_code(field: &[u8]) -> Code
     }
 }
 
-// What follows the fields that say it.
+// What follows the name, and the code of a secure payload.
 pub(crate) fn behind_source(text: &[u8], source: Source) -> &[u8]
     ensures { λ r. ⌜ now r ≡ behindSource source (now (text .entry)) ⌝ }
 {

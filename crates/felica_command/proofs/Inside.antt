@@ -141,10 +141,14 @@ each-whole (suc n) l h =
     let rest = each-whole n (drop size l) (rw length-drop (omega arith)) in
     (first .0 ∷ rest .0, rw (first .1, rest .1) (ap (λ (t : List ℕ). taken (first .0 ∷ rest .0) t) (drop-drop (elementsSize n (drop size l)) size l)))
 
-pub elements-counted : (s : List ℕ) (p : Part) → ElementsInside s p → length (elementsAt s p) ≡ p .count
+elements-counted : (s : List ℕ) (p : Part) → ElementsInside s p → length (elementsAt s p) ≡ p .count
 elements-counted s p h =
     let whole = each-whole (p .count) (drop (p .start) s) (rw length-drop (omega arith)) in
     rw (whole .1) (each-leaves (p .count) (drop (p .start) s) (whole .0) _ (whole .1) .1)
+
+-- so many block numbers, places or modes
+pub values-counted : (s : List ℕ) (p : Part) (value : Element → ℕ) → ElementsInside s p → length (map value (elementsAt s p)) ≡ p .count
+values-counted s p value inside = length-map (elementsAt s p) value ∙ elements-counted s p inside
 
 elements-leaves : (missing outside : ℕ) (b : Bool) (l : List ℕ) (es : List Element) (r : List ℕ) → readElements missing outside b l ≡ taken es r
     → Leaves (blocksSize b l 0 (length es)) l r

@@ -1,5 +1,4 @@
-// The texts of error.rs under `Protocol`, as the numbers of document 01's table: the grounds on which bytes are refused. Then the one on which
-// a lent buffer is.
+// The texts of error.rs under `Protocol`, as the numbers of document 01's table: the grounds on which bytes are refused. Behind them the list reader's own.
 pub const EMPTY_FRAME: u8 = 1;
 
 pub const LENGTH_BYTE_WRONG: u8 = 2;

@@ -1,25 +1,14 @@
 -- `fill` meets its contract: every buffer is measured before one is written.
 -- Assumes nothing.
 use borrow.Author.Needs.{needs}
-use mathlib.Core.Path.{_≡_, _∙_}
-use mathlib.Core.List.{List, map}
-use Prim.Native.Nat.{ℕ}
 use denote.Ref.{now}
-use lib.ListN.{length, length-map}
 use Rattle.felica_format.specs.Command.{Element}
-use Rattle.felica_command.specs.Meaning.{elementsAt}
-use Rattle.felica_command.specs.declared.command.Part.{Part}
-use Rattle.felica_command.specs.Places.{ElementsInside}
-use Rattle.felica_command.proofs.Inside.{wordsOf-length, elements-counted}
+use Rattle.felica_command.proofs.Inside.{wordsOf-length, values-counted}
 use Rattle.felica_lists.specs.Lists.{buffers}
 use Rattle.felica_lists.specs.Fill.{listsAt}
 use Rattle.felica_lists.proofs.Room.{Room, first, second, numbers, places, modes, none-filled, all-filled}
 use Rattle.felica_lists.proofs.fill.fill.Statement.{statement}
 use Rattle.felica_lists.proofs.fill.fill.Tie as tie
-
--- a value of each element of a block list
-counted : (s : List ℕ) (p : Part) (f : Element → ℕ) → ElementsInside s p → length (map f (elementsAt s p)) ≡ p .count
-counted s p f inside = length-map (elementsAt s p) f ∙ elements-counted s p inside
 
 returns : tie.Need-returns
 returns c = none-filled _ _ (first (rw wordsOf-length (c .if1 .taken)))
@@ -30,17 +19,17 @@ returns-2 c = none-filled _ _ (second (rw wordsOf-length (c .if2 .taken)))
 returns-3 : tie.Need-returns-3
 returns-3 c =
     let a = c .before .before .before .before .before .before .before .before .before .before .before .before .before .before .before .args in
-    none-filled _ _ (numbers (rw (counted (now (a .payload)) (a .lists .«block_list») (λ (e : Element). e .number) (c .before .before .before .before .before .before .before .before .before .before .before .before .before .before .before .pre .2)) (c .if3 .taken)))
+    none-filled _ _ (numbers (rw (values-counted (now (a .payload)) (a .lists .«block_list») (λ (e : Element). e .number) (c .before .before .before .before .before .before .before .before .before .before .before .before .before .before .before .pre .2)) (c .if3 .taken)))
 
 returns-4 : tie.Need-returns-4
 returns-4 c =
     let a = c .before .before .before .before .before .before .before .before .before .before .before .before .before .before .before .before .before .args in
-    none-filled _ _ (places (rw (counted (now (a .payload)) (a .lists .«block_list») (λ (e : Element). e .place) (c .before .before .before .before .before .before .before .before .before .before .before .before .before .before .before .before .before .pre .2)) (c .if4 .taken)))
+    none-filled _ _ (places (rw (values-counted (now (a .payload)) (a .lists .«block_list») (λ (e : Element). e .place) (c .before .before .before .before .before .before .before .before .before .before .before .before .before .before .before .before .before .pre .2)) (c .if4 .taken)))
 
 returns-5 : tie.Need-returns-5
 returns-5 c =
     let a = c .before .before .before .before .before .before .before .before .before .before .before .before .before .before .before .before .before .before .before .args in
-    none-filled _ _ (modes (rw (counted (now (a .payload)) (a .lists .«block_list») (λ (e : Element). e .mode) (c .before .before .before .before .before .before .before .before .before .before .before .before .before .before .before .before .before .before .before .pre .2)) (c .if5 .taken)))
+    none-filled _ _ (modes (rw (values-counted (now (a .payload)) (a .lists .«block_list») (λ (e : Element). e .mode) (c .before .before .before .before .before .before .before .before .before .before .before .before .before .before .before .before .before .before .before .pre .2)) (c .if5 .taken)))
 
 fill-codes-requires : tie.Need-fill-codes-requires
 fill-codes-requires c κs = search needs
@@ -76,9 +65,9 @@ returns-6 c =
     let room : Room lists b = record {
       first = rw wordsOf-length (c .before .before .before .before .before .before .before .before .before .before .before .before .before .before .before .before .before .before .before .before .before .before .before .before .before .before .if1 .left);
       second = rw wordsOf-length (c .before .before .before .before .before .before .before .before .before .before .before .before .before .before .before .before .before .before .before .before .before .before .before .before .if2 .left);
-      numbers = rw (counted s (a .lists .«block_list») (λ (e : Element). e .number) inside) (c .before .before .before .before .before .before .before .before .before .before .before .before .before .before .before .before .before .before .before .before .before .before .if3 .left);
-      places = rw (counted s (a .lists .«block_list») (λ (e : Element). e .place) inside) (c .before .before .before .before .before .before .before .before .before .before .before .before .before .before .before .before .before .before .before .before .if4 .left);
-      modes = rw (counted s (a .lists .«block_list») (λ (e : Element). e .mode) inside) (c .before .before .before .before .before .before .before .before .before .before .before .before .before .before .before .before .before .before .if5 .left);
+      numbers = rw (values-counted s (a .lists .«block_list») (λ (e : Element). e .number) inside) (c .before .before .before .before .before .before .before .before .before .before .before .before .before .before .before .before .before .before .before .before .before .before .if3 .left);
+      places = rw (values-counted s (a .lists .«block_list») (λ (e : Element). e .place) inside) (c .before .before .before .before .before .before .before .before .before .before .before .before .before .before .before .before .before .before .before .before .if4 .left);
+      modes = rw (values-counted s (a .lists .«block_list») (λ (e : Element). e .mode) inside) (c .before .before .before .before .before .before .before .before .before .before .before .before .before .before .before .before .before .before .if5 .left);
     } in
     let blocks = c .before .before .before .before .before .before .fill-blocks .ensures in
     all-filled lists b room (c .before .before .before .before .before .before .before .before .before .before .before .before .before .before .before .before .fill-codes .ensures) (c .before .before .before .before .before .before .before .before .before .before .before .before .fill-codes2 .ensures) (blocks .0) (blocks .1) (blocks .2)

@@ -7,13 +7,13 @@ use Prim.Native.Nat.{suc, _+_, _-_, _≤_}
 use native.Mathlib.Nat.{sub-zero}
 use native.Mathlib.Omega.{arith}
 use denote.Ref.{now}
-use lib.ListN.{length, drop, length-set, length-map}
+use lib.ListN.{length, drop, length-set}
 use lib.Seq.{sets}
 use Rattle.felica_format.specs.Command.{Element}
 use Rattle.felica_command.specs.Types.{elementIs}
 use Rattle.felica_command.specs.Meaning.{part}
 use Rattle.felica_command.specs.Places.{elementsSize}
-use Rattle.felica_command.proofs.Inside.{elements-counted}
+use Rattle.felica_command.proofs.Inside.{values-counted}
 use Rattle.felica_cursor.specs.Steps.{elementTaken, ElementPlaced}
 use Rattle.felica_cursor.specs.declared.answers.ElementTaken.{ElementTaken}
 use Rattle.felica_cursor.proofs.Laws.{size-more}
@@ -121,10 +121,10 @@ returns-2 c =
     let s = now (a .payload) in
     let left : a .list .count - loop .i ≡ 0 = omega arith in
     let none = no-elements s (loop .at) (a .list .count - loop .i) left in
-    let counted = elements-counted s (a .list) (c .before .before .before .before .before .before .pre .0) in (
-      store-done (loop .numbers) (loop .i) (now (a .numbers)) (numbersAt s (a .list)) (ap (map (λ (e : Element). e .number)) none) (rw (length-map, counted) (omega arith)) (loop .inv .5),
-      store-done (loop .places) (loop .i) (now (a .places)) (placesAt s (a .list)) (ap (map (λ (e : Element). e .place)) none) (rw (length-map, counted) (omega arith)) (loop .inv .6),
-      store-done (loop .modes) (loop .i) (now (a .modes)) (modesAt s (a .list)) (ap (map (λ (e : Element). e .mode)) none) (rw (length-map, counted) (omega arith)) (loop .inv .7),
+    let inside = c .before .before .before .before .before .before .pre .0 in (
+      store-done (loop .numbers) (loop .i) (now (a .numbers)) (numbersAt s (a .list)) (ap (map (λ (e : Element). e .number)) none) (rw (values-counted s (a .list) (λ (e : Element). e .number) inside) (omega arith)) (loop .inv .5),
+      store-done (loop .places) (loop .i) (now (a .places)) (placesAt s (a .list)) (ap (map (λ (e : Element). e .place)) none) (rw (values-counted s (a .list) (λ (e : Element). e .place) inside) (omega arith)) (loop .inv .6),
+      store-done (loop .modes) (loop .i) (now (a .modes)) (modesAt s (a .list)) (ap (map (λ (e : Element). e .mode)) none) (rw (values-counted s (a .list) (λ (e : Element). e .mode) inside) (omega arith)) (loop .inv .7),
     )
 
 pub fill-blocks-spec : {M : Type 1} → statement M
