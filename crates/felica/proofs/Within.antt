@@ -3,8 +3,8 @@
 use Prim.Native.Nat.{ℕ, _≤_}
 use mathlib.Core.List.{List}
 use lib.ListN.{length}
-use Rattle.felica_text.specs.Put.{buffer}
-use Rattle.felica_text.proofs.Laws.{put-within}
+use Rattle.felica_put.specs.Put.{buffer}
+use Rattle.felica_put.proofs.Laws.{put-within}
 use Rattle.felica_calls.specs.Call.{Called}
 use Rattle.felica_calls.specs.declared.call.Call.{Call}
 use Rattle.felica_calls.specs.declared.call.Call.the-variants.{Parse, List as ListCall, Wrong}

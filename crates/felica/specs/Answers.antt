@@ -6,7 +6,7 @@ use mathlib.Core.List.{List, [], _∷_}
 use lib.ListN.{take}
 use Rattle.felica_command.specs.Places.{Account}
 use Rattle.felica_command.specs.declared.command.Parsed.{Parsed}
-use Rattle.felica_text.specs.Put.{Buffer, put}
+use Rattle.felica_put.specs.Put.{Buffer, put}
 use Rattle.felica_calls.specs.Fault.{faultText}
 use Rattle.felica_calls.specs.Call.{Called}
 use Rattle.felica_calls.specs.declared.call.Call.{Call}

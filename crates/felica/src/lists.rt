@@ -4,7 +4,7 @@ ghost use Prim.Native.Nat.{_≤_};
 ghost use lib.ListN.{length};
 ghost use Rattle.felica_command.specs.Meaning.{meaning};
 ghost use Rattle.felica_command.specs.Places.{placesOf, Inside};
-ghost use Rattle.felica_text.specs.Put.{buffer, put};
+ghost use Rattle.felica_put.specs.Put.{buffer, put};
 ghost use Rattle.felica_lists.specs.Lists.{buffers, outcome, listed};
 ghost use Rattle.felica_calls.specs.Sizes.{Lent};
 ghost use Rattle.felica.specs.Source.{readingOf, payloadIn};

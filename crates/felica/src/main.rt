@@ -1,7 +1,7 @@
 // Answers calls: reads them on standard input, a line each, and writes a line for each to standard output.
 ghost use Prim.Native.Nat.{_≤_};
 ghost use lib.ListN.{length};
-ghost use Rattle.felica_text.specs.Put.{buffer};
+ghost use Rattle.felica_put.specs.Put.{buffer};
 ghost use Rattle.felica_calls.specs.Call.{readCall};
 ghost use Rattle.felica.specs.Answers.{Answered, LineAnswered};
 
@@ -12,8 +12,8 @@ use felica_calls::call::Call;
 use felica_calls::call::read_call;
 use felica_calls::fault::Fault;
 use felica_calls::fault::put_fault;
+use felica_put::put_byte;
 use felica_text::find::find;
-use felica_text::put::put_byte;
 use libc::STDIN_FILENO;
 use libc::STDOUT_FILENO;
 use lists::answer_list;

@@ -2,7 +2,7 @@
 ghost use mathlib.Core.Path.{_≡_};
 ghost use Rattle.felica_command.specs.Places.{Account};
 ghost use Rattle.felica_command.specs.declared.command.Parsed.{Parsed};
-ghost use Rattle.felica_text.specs.Put.{buffer, put};
+ghost use Rattle.felica_put.specs.Put.{buffer, put};
 ghost use Rattle.felica_answers.specs.Answer.{lineOf};
 ghost use Rattle.felica.specs.Source.{readingOf, payloadIn, bodyAt};
 use felica_answers::answer::put_answer;

@@ -1,14 +1,14 @@
 // The line that answers a call of the parser: `OK`, the code and the fields of the command, or `NO`, the number of the refusal and the code.
 ghost use mathlib.Core.Path.{_≡_};
-ghost use Rattle.felica_text.specs.Put.{buffer, put};
+ghost use Rattle.felica_put.specs.Put.{buffer, put};
 ghost use Rattle.felica_answers.specs.Answer.{refusalText, commandText, lineOf};
 use crate::fields::put_fields;
 use felica_command::command::Answer;
 use felica_command::command::FelicaStandardCommand as Command;
 use felica_command::command::Parsed;
 use felica_command::command::Refusal;
-use felica_text::put::put_byte;
-use felica_text::put::put_bytes;
+use felica_put::put_byte;
+use felica_put::put_bytes;
 use felica_text::put::put_decimal;
 use felica_text::put::put_hex_byte;
 

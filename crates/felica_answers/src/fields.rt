@@ -3,7 +3,7 @@ ghost use mathlib.Core.Path.{_≡_};
 ghost use mathlib.Core.List.{List, _++_};
 ghost use Prim.Native.Nat.{ℕ};
 ghost use Rattle.felica_command.specs.Types.{nodePropertyByte, encryptionByte, packetByte};
-ghost use Rattle.felica_text.specs.Put.{buffer, put};
+ghost use Rattle.felica_put.specs.Put.{buffer, put};
 ghost use Rattle.felica_fields.specs.Field.{byteField, wordField, firstField, secondField, blocksField, dataField};
 ghost use Rattle.felica_answers.specs.Answer.{rowOf, rowText, idmText};
 use felica_command::command::FelicaStandardCommand as Command;

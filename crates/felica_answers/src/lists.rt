@@ -1,13 +1,13 @@
 // The line that answers a call of the list reader.
 ghost use mathlib.Core.Path.{_≡_};
-ghost use Rattle.felica_text.specs.Put.{buffer, put};
+ghost use Rattle.felica_put.specs.Put.{buffer, put};
 ghost use lib.ListN.{take};
 ghost use Rattle.felica_answers.specs.Lists.{listsText, listedText};
 use crate::answer::put_refusal;
 use felica_command::command::Answer;
 use felica_fields::field::put_nibbles_field;
 use felica_fields::field::put_words_field;
-use felica_text::put::put_bytes;
+use felica_put::put_bytes;
 use felica_text::put::put_hex_byte;
 
 // The line of what the list reader answers, with the lists at the front of the buffers that it was lent.

@@ -9,7 +9,7 @@ use lib.ListN.{length, getD, drop, drop-of-length-le}
 use borrow.Author.Tests.{lt-ltb, le-ltb, eq-eqb, ne-eqb, le-leb, lt-leb, leb-true}
 use Rattle.felica_format.specs.Basic.{_and_}
 use Rattle.felica_format.proofs.Tests.{and-left, and-right}
-use Rattle.felica_text.proofs.Laws.{drop-next}
+use Rattle.felica_put.proofs.Laws.{drop-next}
 use Rattle.felica_calls.specs.Number.{allDecimal, decimalFrom, readNumber}
 use Rattle.felica_calls.specs.declared.fault.Fault.the-variants.{MissingField, NoNumber, BufferTooLong}
 use Rattle.felica_calls.specs.declared.number.Number.the-variants.{Number as TheNumber, Wrong}

@@ -16,11 +16,11 @@ use Rattle.felica_calls.specs.Source.{readCommandCode}
 use Rattle.felica_calls.specs.declared.source.Code.the-variants.{Code as TheCode, Wrong as WrongCode}
 use Rattle.felica_calls.specs.declared.fault.Fault.the-variants.{MissingField, ExtraField, CodeSize, NoDigit as NotADigit}
 use Rattle.felica_calls.specs.declared.bytes.Bytes.the-variants.{Wrong as WrongBytes}
-use Rattle.felica_text.specs.Put.{buffer, put}
+use Rattle.felica_put.specs.Put.{buffer, put}
 use lib.Seq.{take-all}
 use borrow.Author.Tests.{lt-ltb, le-ltb}
 use Rattle.felica_text.specs.declared.hex.Digit.the-variants.{Value, NoDigit}
-use Rattle.felica_text.proofs.Laws.{drop-next, put-front}
+use Rattle.felica_put.proofs.Laws.{drop-next, put-front}
 
 -- a digit's value is below 16
 small : (d : ℕ) (a b c e : Bool) → ltb d 48 ≡ a → leb d 57 ≡ b → ltb d 65 ≡ c → leb d 70 ≡ e

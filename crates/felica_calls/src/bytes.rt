@@ -1,15 +1,15 @@
 // The bytes of a call: hexadecimal digits, written to a lent buffer.
 ghost use mathlib.Core.Path.{_≡_};
 ghost use Rattle.felica_text.specs.Text.{digitOf};
-ghost use Rattle.felica_text.specs.Put.{buffer, put};
+ghost use Rattle.felica_put.specs.Put.{buffer, put};
 ghost use Rattle.felica_calls.specs.Bytes.{decoded, readLast, readBytes, bytesOf, allDigits, byteOf, valueOf};
 use crate::fault::Fault;
 use crate::field::behind_space;
 use crate::field::is_byte;
+use felica_put::put_byte;
 use felica_text::find::find;
 use felica_text::hex::Digit;
 use felica_text::hex::digit_value;
-use felica_text::put::put_byte;
 
 // How many there are, or what is wrong with them.
 pub(crate) enum Bytes {

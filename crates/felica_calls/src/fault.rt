@@ -1,8 +1,8 @@
 // What can be wrong with a call, and the line that says it.
 ghost use mathlib.Core.Path.{_≡_};
-ghost use Rattle.felica_text.specs.Put.{buffer, put};
+ghost use Rattle.felica_put.specs.Put.{buffer, put};
 ghost use Rattle.felica_calls.specs.Fault.{faultText};
-use felica_text::put::put_bytes;
+use felica_put::put_bytes;
 
 pub enum Fault {
     EmptyLine,

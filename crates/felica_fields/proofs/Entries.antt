@@ -9,7 +9,7 @@ use lib.ListN.{length, getD, drop, drop-of-length-le}
 use Rattle.felica_format.specs.Basic.{Step, taken, refuse, wordOf}
 use Rattle.felica_text.specs.Text.{text, behindCommas, parted}
 use Rattle.felica_fields.specs.Entries.{readCode, entriesOf}
-use Rattle.felica_text.proofs.Laws.{drop-next}
+use Rattle.felica_put.proofs.Laws.{drop-next}
 
 module _ (s : List ℕ) (at : ℕ) where
   pub code-none : length s ≤ at → readCode (drop at s) ≡ refuse 13

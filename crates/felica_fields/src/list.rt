@@ -4,7 +4,7 @@ ghost use lib.ListN.{drop};
 ghost use Rattle.felica_format.specs.Read.{readElement};
 ghost use Rattle.felica_command.specs.Types.{elementIs};
 ghost use Rattle.felica_text.specs.Text.{wordText, behindCommas};
-ghost use Rattle.felica_text.specs.Put.{buffer, put};
+ghost use Rattle.felica_put.specs.Put.{buffer, put};
 ghost use Rattle.felica_fields.specs.Entries.{readCode, elementText, entriesOf, codesText, blocksText};
 use crate::entry::CodeRead;
 use crate::entry::code_at;
@@ -12,8 +12,8 @@ use felica_command::command::Part;
 use felica_command::types::BlockListElement;
 use felica_cursor::answers::ElementTaken;
 use felica_cursor::cursor::Cursor;
+use felica_put::put_byte;
 use felica_text::hex::hex_digit;
-use felica_text::put::put_byte;
 use felica_text::put::put_hex_word;
 
 pub(crate) fn put_codes(out: &mut [u8], at: usize, payload: &[u8], list: Part) -> usize

@@ -6,7 +6,7 @@ use Prim.Native.Nat.{ℕ, _+_, _<_}
 use lib.ListN.{length, getD, drop}
 use borrow.Author.Tests.{eq-eqb, ne-eqb}
 use Rattle.felica_text.specs.Text.{before}
-use Rattle.felica_text.proofs.Laws.{drop-next}
+use Rattle.felica_put.proofs.Laws.{drop-next}
 
 pub before-here : (b : ℕ) (s : List ℕ) (i : ℕ) → i < length s → getD s i 0 ≡ b → before b (drop i s) ≡ []
 unfolding before

@@ -1,3 +1,2 @@
--- Numbers as text, and what a buffer holds that text is put into.
+-- Numbers as text.
 pub mod Text
-pub mod Put

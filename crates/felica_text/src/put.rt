@@ -1,32 +1,9 @@
-// Text put into a lent buffer at a place. Each function answers the place behind; where the buffer is full the rest is left out.
+// Numbers and lists put into a lent buffer as text, as felica_put puts bytes.
 ghost use mathlib.Core.Path.{_≡_};
-ghost use mathlib.Core.List.{[], _∷_};
 ghost use Rattle.felica_text.specs.Text.{byteText, wordText, nibbleText, digitsText, bytesText, parted, decimalText};
-ghost use Rattle.felica_text.specs.Put.{buffer, put};
+ghost use Rattle.felica_put.specs.Put.{buffer, put};
 use crate::hex::hex_digit;
-
-pub fn put_byte(out: &mut [u8], at: usize, byte: u8) -> usize
-    ensures { λ r. ⌜ buffer (now (out .exit)) r ≡ put (buffer (now (out .entry)) at) (byte ∷ []) ⌝ }
-{
-    if at < out.len() {
-        out[at] = byte;
-        at + 1
-    } else {
-        at
-    }
-}
-
-pub fn put_bytes(out: &mut [u8], at: usize, bytes: &[u8]) -> usize
-    ensures { λ r. ⌜ buffer (now (out .exit)) r ≡ put (buffer (now (out .entry)) at) (now (bytes .entry)) ⌝ }
-{
-    let mut next = at;
-    let mut i = 0;
-    while i < bytes.len() {
-        next = put_byte(out, next, bytes[i]);
-        i += 1;
-    }
-    next
-}
+use felica_put::put_byte;
 
 // A byte in two digits.
 pub fn put_hex_byte(out: &mut [u8], at: usize, byte: u8) -> usize

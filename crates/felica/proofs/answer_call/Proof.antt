@@ -4,7 +4,7 @@ use mathlib.Core.Path.{_≡_, sym, ap, _∙_, subst}
 use mathlib.Core.List.{List}
 use Prim.Native.Nat.{ℕ}
 use lib.Seq.{length-take-le}
-use Rattle.felica_text.specs.Put.{Buffer}
+use Rattle.felica_put.specs.Put.{Buffer}
 use Rattle.felica_calls.specs.Call.{Called, called}
 use Rattle.felica_calls.specs.declared.call.Call.{Call}
 use Rattle.felica_calls.proofs.Counts.{count-within, sizes-within}

@@ -4,7 +4,7 @@ use native.Mathlib.Omega.{arith}
 use mathlib.Core.Path.{sym}
 use lib.ListN.{length-take}
 use lib.Seq.{length-take-le}
-use Rattle.felica_text.proofs.Laws.{put-within}
+use Rattle.felica_put.proofs.Laws.{put-within}
 use borrow.Author.Needs.{needs}
 use Rattle.felica.proofs.answer_held.Statement.{statement}
 use Rattle.felica.proofs.answer_held.Tie as tie

@@ -3,7 +3,7 @@
 use mathlib.Core.Path.{sym, ap, _∙_}
 use lib.Seq.{length-take-le}
 use denote.Ref.{now}
-use Rattle.felica_text.specs.Put.{put}
+use Rattle.felica_put.specs.Put.{put}
 use Rattle.felica.specs.Source.{readingOf, payloadIn}
 use Rattle.felica.proofs.Listed.{line-from}
 use borrow.Author.Needs.{needs}

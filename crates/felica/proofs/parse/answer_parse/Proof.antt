@@ -3,7 +3,7 @@
 use borrow.Author.Needs.{needs}
 use mathlib.Core.Path.{ap, _∙_}
 use denote.Ref.{now}
-use Rattle.felica_text.specs.Put.{buffer, put}
+use Rattle.felica_put.specs.Put.{buffer, put}
 use Rattle.felica_answers.specs.Answer.{lineOf}
 use Rattle.felica.proofs.parse.answer_parse.Statement.{statement}
 use Rattle.felica.proofs.parse.answer_parse.Tie as tie

@@ -1,6 +1,6 @@
 -- `felica_answers::answer::put_command` meets its contract.
 -- Assumes nothing.
-use Rattle.felica_text.proofs.Laws.{put-then}
+use Rattle.felica_put.proofs.Laws.{put-then}
 use borrow.Author.Needs.{needs}
 use Rattle.felica_answers.proofs.answer.put_command.Statement.{statement}
 use Rattle.felica_answers.proofs.answer.put_command.Tie as tie

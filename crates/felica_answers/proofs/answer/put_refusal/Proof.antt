@@ -1,6 +1,6 @@
 -- `felica_answers::answer::put_refusal` meets its contract.
 -- Assumes nothing.
-use Rattle.felica_text.proofs.Laws.{put-then}
+use Rattle.felica_put.proofs.Laws.{put-then}
 use borrow.Author.Needs.{needs}
 use Rattle.felica_answers.proofs.answer.put_refusal.Statement.{statement}
 use Rattle.felica_answers.proofs.answer.put_refusal.Tie as tie

@@ -2,7 +2,7 @@
 -- Assumes nothing.
 use mathlib.Core.Logic.{⊎-elim}
 use mathlib.Core.Path.{sym, ap}
-use Rattle.felica_text.specs.Put.{put}
+use Rattle.felica_put.specs.Put.{put}
 use Rattle.felica_answers.specs.Answer.{rowOf}
 use Rattle.felica_answers.proofs.Rows.{empty}
 use borrow.Author.Needs.{needs}

@@ -1,6 +1,6 @@
 -- `felica_answers::fields::put_fields` meets its contract: part after part.
 -- Assumes nothing.
-use Rattle.felica_text.proofs.Laws.{put-then}
+use Rattle.felica_put.proofs.Laws.{put-then}
 use borrow.Author.Needs.{needs}
 use Rattle.felica_answers.proofs.fields.put_fields.Statement.{statement}
 use Rattle.felica_answers.proofs.fields.put_fields.Tie as tie

@@ -1,7 +1,7 @@
 -- `felica_answers::fields::put_fixed_of` meets its contract: a row for each command that has fixed fields.
 -- Assumes nothing.
 use mathlib.Core.Path.{sym, ap}
-use Rattle.felica_text.specs.Put.{put}
+use Rattle.felica_put.specs.Put.{put}
 use Rattle.felica_answers.specs.Answer.{rowOf}
 use Rattle.felica_answers.proofs.Rows.{empty}
 use borrow.Author.Needs.{needs}

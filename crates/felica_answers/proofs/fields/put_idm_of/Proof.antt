@@ -1,7 +1,7 @@
 -- `felica_answers::fields::put_idm_of` meets its contract.
 -- Assumes nothing.
 use mathlib.Core.Path.{sym, ap, _∙_}
-use Rattle.felica_text.specs.Put.{put}
+use Rattle.felica_put.specs.Put.{put}
 use Rattle.felica_answers.specs.Answer.{idmText}
 use Rattle.felica_answers.proofs.Rows.{empty}
 use borrow.Author.Needs.{needs}

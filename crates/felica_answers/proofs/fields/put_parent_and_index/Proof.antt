@@ -1,6 +1,6 @@
 -- `felica_answers::fields::put_parent_and_index` meets its contract: field after field.
 -- Assumes nothing.
-use Rattle.felica_text.proofs.Laws.{put-then}
+use Rattle.felica_put.proofs.Laws.{put-then}
 use borrow.Author.Needs.{needs}
 use Rattle.felica_answers.proofs.fields.put_parent_and_index.Statement.{statement}
 use Rattle.felica_answers.proofs.fields.put_parent_and_index.Tie as tie

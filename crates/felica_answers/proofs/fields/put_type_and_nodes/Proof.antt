@@ -1,6 +1,6 @@
 -- `felica_answers::fields::put_type_and_nodes` meets its contract: field after field.
 -- Assumes nothing.
-use Rattle.felica_text.proofs.Laws.{put-then}
+use Rattle.felica_put.proofs.Laws.{put-then}
 use borrow.Author.Needs.{needs}
 use Rattle.felica_answers.proofs.fields.put_type_and_nodes.Statement.{statement}
 use Rattle.felica_answers.proofs.fields.put_type_and_nodes.Tie as tie

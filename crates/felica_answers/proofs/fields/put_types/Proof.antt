@@ -1,6 +1,6 @@
 -- `felica_answers::fields::put_types` meets its contract: field after field.
 -- Assumes nothing.
-use Rattle.felica_text.proofs.Laws.{put-then}
+use Rattle.felica_put.proofs.Laws.{put-then}
 use borrow.Author.Needs.{needs}
 use Rattle.felica_answers.proofs.fields.put_types.Statement.{statement}
 use Rattle.felica_answers.proofs.fields.put_types.Tie as tie

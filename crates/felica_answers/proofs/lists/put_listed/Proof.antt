@@ -1,7 +1,7 @@
 -- `felica_answers::lists::put_listed` meets its contract.
 -- Assumes nothing.
 use mathlib.Core.Path.{ap, _∙_}
-use Rattle.felica_text.specs.Put.{put}
+use Rattle.felica_put.specs.Put.{put}
 use Rattle.felica_answers.proofs.Listed.{command-line, refused-line}
 use borrow.Author.Needs.{needs}
 use Rattle.felica_answers.proofs.lists.put_listed.Statement.{statement}

@@ -1,6 +1,6 @@
 -- `felica_answers::lists::put_lists` meets its contract: piece after piece.
 -- Assumes nothing.
-use Rattle.felica_text.proofs.Laws.{put-then}
+use Rattle.felica_put.proofs.Laws.{put-then}
 use Rattle.felica_answers.specs.Lists.{listsText}
 use borrow.Author.Needs.{needs}
 use Rattle.felica_answers.proofs.lists.put_lists.Statement.{statement}

@@ -5,9 +5,9 @@ use native.Mathlib.Omega.{arith}
 use Prim.Native.Nat.{_*_, _-_, _≤_}
 use mathlib.Core.Path.{_≡_, refl, sym, ap, _∙_}
 use lib.ListN.{length, drop}
-use Rattle.felica_text.specs.Put.{buffer, put}
+use Rattle.felica_put.specs.Put.{buffer, put}
 use Rattle.felica_calls.specs.Bytes.{bytesOf}
-use Rattle.felica_text.proofs.Laws.{put-rest, put-none}
+use Rattle.felica_put.proofs.Laws.{put-rest, put-none}
 use Rattle.felica_calls.proofs.Reading.{bytes-next, bytes-end}
 use Rattle.felica_calls.proofs.bytes.decode.Statement.{statement}
 use Rattle.felica_calls.proofs.bytes.decode.Tie as tie

@@ -1,6 +1,6 @@
 -- `felica_calls::fault::put_fault` meets its contract: a line for each fault.
 -- Assumes nothing.
-use Rattle.felica_text.proofs.Laws.{put-then}
+use Rattle.felica_put.proofs.Laws.{put-then}
 use borrow.Author.Needs.{needs}
 use Rattle.felica_calls.proofs.fault.put_fault.Statement.{statement}
 use Rattle.felica_calls.proofs.fault.put_fault.Tie as tie

@@ -1,6 +1,6 @@
 -- `felica_fields::field::put_block_list` meets its contract: the name, then the value.
 -- Assumes nothing.
-use Rattle.felica_text.proofs.Laws.{put-then}
+use Rattle.felica_put.proofs.Laws.{put-then}
 use borrow.Author.Needs.{needs}
 use Rattle.felica_fields.proofs.field.put_block_list.Statement.{statement}
 use Rattle.felica_fields.proofs.field.put_block_list.Tie as tie

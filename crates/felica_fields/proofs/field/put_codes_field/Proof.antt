@@ -1,6 +1,6 @@
 -- `felica_fields::field::put_codes_field` meets its contract: the name, then the value.
 -- Assumes nothing.
-use Rattle.felica_text.proofs.Laws.{put-then}
+use Rattle.felica_put.proofs.Laws.{put-then}
 use borrow.Author.Needs.{needs}
 use Rattle.felica_fields.proofs.field.put_codes_field.Statement.{statement}
 use Rattle.felica_fields.proofs.field.put_codes_field.Tie as tie

@@ -4,7 +4,7 @@ use native.Mathlib.Omega.{arith}
 use mathlib.Core.Path.{sym}
 use lib.ListN.{drop, length-drop}
 use lib.Seq.{length-take-le, take-all}
-use Rattle.felica_text.proofs.Laws.{put-then}
+use Rattle.felica_put.proofs.Laws.{put-then}
 use borrow.Author.Needs.{needs}
 use Rattle.felica_fields.proofs.field.put_issue.Statement.{statement}
 use Rattle.felica_fields.proofs.field.put_issue.Tie as tie

@@ -1,6 +1,6 @@
 -- `felica_fields::list::put_block` meets its contract: the number, the place and the mode.
 -- Assumes nothing.
-use Rattle.felica_text.proofs.Laws.{put-then}
+use Rattle.felica_put.proofs.Laws.{put-then}
 use borrow.Author.Needs.{needs}
 use Rattle.felica_fields.proofs.list.put_block.Statement.{statement}
 use Rattle.felica_fields.proofs.list.put_block.Tie as tie

@@ -2,9 +2,9 @@
 -- Assumes nothing.
 use mathlib.Core.Path.{sym, ap, _∙_}
 use Rattle.felica_text.specs.Text.{wordText}
-use Rattle.felica_text.specs.Put.{put}
+use Rattle.felica_put.specs.Put.{put}
 use Rattle.felica_fields.specs.Entries.{readCode, codeRead}
-use Rattle.felica_text.proofs.Laws.{put-then}
+use Rattle.felica_put.proofs.Laws.{put-then}
 use Rattle.felica_fields.proofs.Entries.{list-next, list-end, list-none}
 use borrow.Author.Needs.{needs}
 use Rattle.felica_fields.proofs.list.put_codes.Statement.{statement}

@@ -6,9 +6,9 @@ use mathlib.Core.Path.{_≡_, refl, sym, ap, _∙_}
 use lib.ListN.{length, drop}
 use Rattle.felica_format.specs.Read.{readElement}
 use Rattle.felica_text.specs.Text.{behindCommas}
-use Rattle.felica_text.specs.Put.{buffer, put}
+use Rattle.felica_put.specs.Put.{buffer, put}
 use Rattle.felica_fields.specs.Entries.{elementText, entriesOf}
-use Rattle.felica_text.proofs.Laws.{put-then, put-rest, put-none}
+use Rattle.felica_put.proofs.Laws.{put-then, put-rest, put-none}
 use Rattle.felica_fields.proofs.Entries.{more-next, more-end, more-none}
 use Rattle.felica_cursor.specs.Steps.{elementTaken}
 use Rattle.felica_fields.proofs.list.put_more_blocks.Statement.{statement}

@@ -4,9 +4,9 @@ use native.Mathlib.Omega.{arith}
 use mathlib.Core.Path.{_≡_, refl, sym, ap, _∙_}
 use lib.ListN.{length, drop}
 use Rattle.felica_text.specs.Text.{wordText, behindCommas}
-use Rattle.felica_text.specs.Put.{buffer, put}
+use Rattle.felica_put.specs.Put.{buffer, put}
 use Rattle.felica_fields.specs.Entries.{readCode, codeRead, entriesOf}
-use Rattle.felica_text.proofs.Laws.{put-then, put-rest, put-none}
+use Rattle.felica_put.proofs.Laws.{put-then, put-rest, put-none}
 use Rattle.felica_fields.proofs.Entries.{more-next, more-end, more-none}
 use borrow.Author.Needs.{needs}
 use Rattle.felica_fields.proofs.list.put_more_codes.Statement.{statement}

@@ -3,8 +3,8 @@
 use borrow.Author.Needs.{needs}
 use native.Mathlib.Omega.{arith}
 use mathlib.Core.Path.{sym, ap, _∙_}
-use Rattle.felica_text.specs.Put.{put}
-use Rattle.felica_text.proofs.Laws.{put-then}
+use Rattle.felica_put.specs.Put.{put}
+use Rattle.felica_put.proofs.Laws.{put-then}
 use Rattle.felica_text.proofs.Text.{decimal-small, decimal-more}
 use Prim.Native.Nat.{ℕ, _<_}
 use borrow.Fn.Kinds.{In}
@@ -12,7 +12,7 @@ use borrow.Fn.PlainCycle.{Measures, is, falls, and}
 use Rattle.felica_text.proofs.put.put_decimal.Reads as put-decimal
 use Rattle.felica_text.proofs.put.put_decimal.Kinds as put-decimal-kinds
 use Rattle.felica_text.proofs.put.+put_decimal.Lts-put_decimal as put-decimal-lts
-use Rattle.felica_text.proofs.put.put_byte.Reads as put-byte-reads
+use Rattle.felica_put.proofs.put_byte.Reads as put-byte-reads
 use Rattle.felica_text.proofs.put.+put_decimal.{statement}
 use Rattle.felica_text.proofs.put.+put_decimal.Tie.{close}
 

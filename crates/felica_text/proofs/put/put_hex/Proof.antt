@@ -1,7 +1,7 @@
 -- `felica_text::put::put_hex` meets its contract.
 -- Assumes nothing.
 use mathlib.Core.Path.{sym, ap, _∙_}
-use Rattle.felica_text.specs.Put.{put}
+use Rattle.felica_put.specs.Put.{put}
 use Rattle.felica_text.proofs.Text.{bytes-none, bytes-some}
 use borrow.Author.Needs.{needs}
 use Rattle.felica_text.proofs.put.put_hex.Statement.{statement}

@@ -1,6 +1,6 @@
 -- `felica_text::put::put_hex_byte` meets its contract: two digits.
 -- Assumes nothing.
-use Rattle.felica_text.proofs.Laws.{put-then}
+use Rattle.felica_put.proofs.Laws.{put-then}
 use borrow.Author.Needs.{needs}
 use Rattle.felica_text.proofs.put.put_hex_byte.Statement.{statement}
 use Rattle.felica_text.proofs.put.put_hex_byte.Tie as tie

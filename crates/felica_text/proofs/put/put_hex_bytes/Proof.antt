@@ -6,8 +6,8 @@ use Prim.Native.Nat.{_-_, _≤_}
 use mathlib.Core.Path.{_≡_, refl, _∙_}
 use lib.ListN.{length, drop}
 use Rattle.felica_text.specs.Text.{byteText, digitsText}
-use Rattle.felica_text.specs.Put.{buffer, put}
-use Rattle.felica_text.proofs.Laws.{put-more, put-done}
+use Rattle.felica_put.specs.Put.{buffer, put}
+use Rattle.felica_put.proofs.Laws.{put-more, put-done}
 use Rattle.felica_text.proofs.put.put_hex_bytes.Statement.{statement}
 use Rattle.felica_text.proofs.put.put_hex_bytes.Tie as tie
 

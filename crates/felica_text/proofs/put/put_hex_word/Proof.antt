@@ -1,6 +1,6 @@
 -- `felica_text::put::put_hex_word` meets its contract: the high byte, then the low one.
 -- Assumes nothing.
-use Rattle.felica_text.proofs.Laws.{put-then}
+use Rattle.felica_put.proofs.Laws.{put-then}
 use borrow.Author.Needs.{needs}
 use Rattle.felica_text.proofs.put.put_hex_word.Statement.{statement}
 use Rattle.felica_text.proofs.put.put_hex_word.Tie as tie

@@ -7,8 +7,8 @@ use mathlib.Core.Path.{_≡_, refl, sym, ap, _∙_}
 use mathlib.Core.List.{_∷_}
 use lib.ListN.{length, drop}
 use Rattle.felica_text.specs.Text.{wordText, behindCommas}
-use Rattle.felica_text.specs.Put.{buffer, put}
-use Rattle.felica_text.proofs.Laws.{put-then, put-more, put-done}
+use Rattle.felica_put.specs.Put.{buffer, put}
+use Rattle.felica_put.proofs.Laws.{put-then, put-more, put-done}
 use Rattle.felica_text.proofs.Text.{parted-none, parted-some}
 use Rattle.felica_text.proofs.put.put_words.Statement.{statement}
 use Rattle.felica_text.proofs.put.put_words.Tie as tie

@@ -1,4 +1,4 @@
--- `felica_text::put::put_bytes` meets its contract.
+-- `felica_put::put_bytes` meets its contract.
 -- Assumes nothing.
 use borrow.Author.Needs.{needs}
 use native.Mathlib.Omega.{arith}
@@ -6,10 +6,10 @@ use Prim.Native.Nat.{_-_, _≤_}
 use mathlib.Core.Path.{_≡_, refl, _∙_}
 use mathlib.Core.List.{[], _∷_}
 use lib.ListN.{length, drop}
-use Rattle.felica_text.specs.Put.{buffer, put}
-use Rattle.felica_text.proofs.Laws.{put-more, put-done}
-use Rattle.felica_text.proofs.put.put_bytes.Statement.{statement}
-use Rattle.felica_text.proofs.put.put_bytes.Tie as tie
+use Rattle.felica_put.specs.Put.{buffer, put}
+use Rattle.felica_put.proofs.Laws.{put-more, put-done}
+use Rattle.felica_put.proofs.put_bytes.Statement.{statement}
+use Rattle.felica_put.proofs.put_bytes.Tie as tie
 
 abbrev Inv-loop : tie.InvT-loop
 Inv-loop out₀ at bytes next₀ i₀ out next i = (i ≤ length bytes) × (length out ≡ length out₀) × (put (buffer out next) (drop i bytes) ≡ put (buffer out₀ at) bytes)

@@ -1,10 +1,10 @@
--- `felica_text::put::put_byte` meets its contract: a byte is stored where there is room.
+-- `felica_put::put_byte` meets its contract: a byte is stored where there is room.
 -- Assumes nothing.
 use borrow.Author.Tests.{lt-ltb, le-ltb}
-use Rattle.felica_text.specs.Put.{put}
+use Rattle.felica_put.specs.Put.{put}
 use borrow.Author.Needs.{needs}
-use Rattle.felica_text.proofs.put.put_byte.Statement.{statement}
-use Rattle.felica_text.proofs.put.put_byte.Tie as tie
+use Rattle.felica_put.proofs.put_byte.Statement.{statement}
+use Rattle.felica_put.proofs.put_byte.Tie as tie
 
 slice-write-out : tie.Need-slice-write-out
 slice-write-out c = search needs

@@ -12,7 +12,7 @@ use lib.ListN.{length, getD, set, take, drop, length-set, drop-of-length-le}
 use lib.Seq.{sets, sets-eq, drop-cons, drop-set-lt}
 use lib.Dec.{ltb}
 use borrow.Author.Tests.{lt-ltb, ltb-true}
-use Rattle.felica_text.specs.Put.{Buffer, buffer, putByte, put}
+use Rattle.felica_put.specs.Put.{Buffer, buffer, putByte, put}
 
 pub put-append : (b : Buffer) (vs ws : List ℕ) → put b (vs ++ ws) ≡ put (put b vs) ws
 unfolding put

@@ -1,0 +1,2 @@
+-- What a buffer holds that bytes are put into.
+pub mod Put
