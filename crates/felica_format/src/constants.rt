@@ -11,6 +11,9 @@ pub const IDM_LEN: usize = 8;
 // Bytes of a block.
 pub const BLOCK_SIZE: usize = 16;
 
+// Bytes of the longest frame.
+pub const MAX_PACKET_LEN: usize = 0xFF;
+
 pub const MAX_SERVICE_CODES: u8 = 0x20;
 
 // The same where blocks are read or written without encryption.
@@ -99,27 +102,27 @@ const NO_CODES: Bounds = Bounds {
     greatest: 0,
 };
 
-const SERVICE_CODES: Bounds = Bounds {
+pub const SERVICE_CODES: Bounds = Bounds {
     least: 1,
     greatest: MAX_SERVICE_CODES,
 };
 
-const RW_SERVICE_CODES: Bounds = Bounds {
+pub const RW_SERVICE_CODES: Bounds = Bounds {
     least: 1,
     greatest: MAX_RW_SERVICE_CODES,
 };
 
-const AREA_AND_SERVICE_CODES: Bounds = Bounds {
+pub const AREA_AND_SERVICE_CODES: Bounds = Bounds {
     least: 0,
     greatest: MAX_SERVICE_CODES,
 };
 
-const NODE_CODES: Bounds = Bounds {
+pub const NODE_CODES: Bounds = Bounds {
     least: 1,
     greatest: MAX_NODE_CODES,
 };
 
-const NODE_PROPERTY_CODES: Bounds = Bounds {
+pub const NODE_PROPERTY_CODES: Bounds = Bounds {
     least: 1,
     greatest: MAX_NODE_PROPERTY_CODES,
 };

@@ -1,4 +1,4 @@
-// The texts of error.rs under `Protocol`, as the numbers of document 01's table: the grounds on which bytes are refused. Behind them the list reader's own.
+// The texts of error.rs under `Protocol`, as the numbers of document 01's table: the grounds on which bytes are refused. Behind them those of the list reader and the writer.
 pub const EMPTY_FRAME: u8 = 1;
 
 pub const LENGTH_BYTE_WRONG: u8 = 2;
@@ -44,3 +44,6 @@ pub const FIRST_TYPE_UNDEFINED: u8 = 19;
 pub const SECOND_TYPE_UNDEFINED: u8 = 20;
 
 pub const BUFFER_TOO_SMALL: u8 = 21;
+
+// No accepted frame and no accepted secure payload gives what the writer was handed.
+pub const UNWRITABLE: u8 = 22;
