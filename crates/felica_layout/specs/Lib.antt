@@ -1,0 +1,2 @@
+-- What the code's layouts mean.
+pub mod Layout

@@ -1,0 +1,46 @@
+-- `felica_writable::fields::zeros_from` meets its contract.
+-- Assumes nothing.
+use Prim.Native.Nat.{_-_}
+use native.Mathlib.Omega.{arith}
+use mathlib.Core.Path.{_≡_, ap, _∙_}
+use lib.ListN.{length, take, drop, length-drop}
+use lib.Seq.{take-all}
+use Rattle.felica_format.specs.Basic.{allBelow}
+use denote.Ref.{now}
+use Rattle.felica_writable.proofs.Laws.{all-small, zeros-past, zeros-here}
+use borrow.Author.Needs.{needs}
+use Rattle.felica_writable.proofs.fields.zeros_from.Statement.{statement}
+use Rattle.felica_writable.proofs.fields.zeros_from.Tie as tie
+
+returns : tie.Need-returns
+returns c = (zeros-past (now (c .before .before .args .bytes)) (c .before .before .args .from) (c .if1 .taken), all-small 256 (now (c .before .before .args .bytes)) (λ i. c .before .shared-slice-known .given i .fits))
+
+sub-all-below : tie.Need-sub-all-below
+sub-all-below c = search needs
+
+part-all-below-start : tie.Need-part-all-below-start
+part-all-below-start c = search needs
+
+part-all-below-end : tie.Need-part-all-below-end
+part-all-below-end c = search needs
+
+all-below-requires : tie.Need-all-below-requires
+all-below-requires c κs = search needs
+
+returns-2 : tie.Need-returns-2
+returns-2 c =
+    let s = now (c .before .before .before .before .args .bytes) in
+    let from = c .before .before .before .before .args .from in
+    let rest : take (length s - from) (drop from s) ≡ drop from s = take-all (length s - from) (drop from s) (simp length-drop (omega arith)) in
+    (c .all-below .ensures ∙ ap (allBelow 1) rest ∙ zeros-here s from, all-small 256 s (λ i. c .before .before .before .shared-slice-known .given i .fits))
+
+pub zeros-from-spec : {M : Type 1} → statement M
+zeros-from-spec =
+    tie.close
+    (tie.spec
+    returns
+    sub-all-below
+    part-all-below-start
+    part-all-below-end
+    all-below-requires
+    returns-2)

@@ -1,0 +1,2 @@
+-- What the tests say.
+pub mod Tests
