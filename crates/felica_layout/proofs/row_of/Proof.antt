@@ -57,7 +57,7 @@ fixed-requires-10 : tie.Need-fixed-requires-10
 fixed-requires-10 c κs = search needs
 
 secure-row-requires : tie.Need-secure-row-requires
-secure-row-requires c κs = 
+secure-row-requires c κs =
     not-plain (c .before .args .code)
     (c .match .rest .0 .0 .0 .0 .0 .0 .0 .0 .0 .0 .0 .0 .0 .0 .0 .1)
     (c .match .rest .0 .0 .0 .0 .0 .0 .0 .0 .0 .0 .0 .0 .0 .0 .1)

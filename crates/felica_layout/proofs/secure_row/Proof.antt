@@ -41,7 +41,7 @@ unfolding known classOf layoutOf layoutIn has plainRows secureRows
 returns-5 c = rw (c .before .match .keys5) (c .payload-row5 .ensures)
 
 returns-6 : tie.Need-returns-6
-returns-6 c = 
+returns-6 c =
     not-secure (c .before .args .code) (c .before .pre)
     (c .match .rest .0 .0 .0 .0 .1)
     (c .match .rest .0 .0 .0 .1)
