@@ -30,18 +30,18 @@ pub record Narrow (l : Layout) : Type 0 where
   pub ending : sizeOf (l .ending) ≤ 16
 
 -- the ranges of a body, part by part
-record Fits (l : Layout) (c : Command) : Type 0 where
-  idm : idmOk (l .idm) (c .idm) ≡ true
-  selector : selectorOk (l .selector) (c .selector) ≡ true
-  first : codesOk (l .first) (c .first) ≡ true
-  second : codesOk (l .second) (c .second) ≡ true
-  lists : oneLength c ≡ true
-  elements : elementsOk (l .elements) (elementsOf c) ≡ true
-  blockData : dataOk (l .blockData) (length (elementsOf c)) (c .blockData) ≡ true
-  values : endFieldsOk (rangesOf (l .ending)) (endFieldsOf c) ≡ true
-  pack : packageOk (l .behind) (c .issuePackage) ≡ true
+pub record Fits (l : Layout) (c : Command) : Type 0 where
+  pub idm : idmOk (l .idm) (c .idm) ≡ true
+  pub selector : selectorOk (l .selector) (c .selector) ≡ true
+  pub first : codesOk (l .first) (c .first) ≡ true
+  pub second : codesOk (l .second) (c .second) ≡ true
+  pub lists : oneLength c ≡ true
+  pub elements : elementsOk (l .elements) (elementsOf c) ≡ true
+  pub blockData : dataOk (l .blockData) (length (elementsOf c)) (c .blockData) ≡ true
+  pub values : endFieldsOk (rangesOf (l .ending)) (endFieldsOf c) ≡ true
+  pub pack : packageOk (l .behind) (c .issuePackage) ≡ true
 
-fits-of : (l : Layout) (c : Command) → bodyOk l c ≡ true → Fits l c
+pub fits-of : (l : Layout) (c : Command) → bodyOk l c ≡ true → Fits l c
 unfolding bodyOk
 fits-of l c ok =
     let ok₁ = and-right _ _ ok in

@@ -12,6 +12,7 @@ use Rattle.felica_format.specs.Basic.{_and_, isOneOf}
 use Rattle.felica_format.specs.Layout.{Codes, noCodes, _to_, Behind, nothing, ignoredBytes, aPackage, Layout, Row, plainRows, secureRows}
 use Rattle.felica_format.specs.Layout.{has, classOf, layoutIn, layoutOf, boundsOf}
 use Rattle.felica_format.specs.Read.{sizeOf}
+use Rattle.felica_format.specs.Write.{packageBytes}
 use Rattle.felica_format.specs.Demand3.{secureReadsAndWrites, MayFollow}
 use Rattle.felica_format.proofs.Tests.{and-left, and-right}
 use Rattle.felica_format.proofs.Ending.{Left}
@@ -129,6 +130,25 @@ none-left aPackage rest h left = left
 
 pub plain-left : (code : ℕ) (rest : List ℕ) → classOf code ≡ Plain → Left (layoutOf code .behind) rest → rest ≡ []
 plain-left code rest e left = none-left (layoutOf code .behind) rest (plain-row (λ code l. ignoresAs (l .behind) false) plain-ignores code e) left
+
+-- no plain body has a package
+bare-behind : Behind → Bool
+bare-behind nothing = true
+bare-behind ignoredBytes = true
+bare-behind aPackage = false
+
+plain-bare : everyRow (λ code l. bare-behind (l .behind)) plainRows ≡ true
+unfolding everyRow bare-behind plainRows _and_
+plain-bare = refl
+
+no-package : (b : Behind) (pack : List ℕ) → bare-behind b ≡ true → packageBytes b pack ≡ []
+unfolding bare-behind packageBytes
+no-package nothing pack h = refl
+no-package ignoredBytes pack h = refl
+no-package aPackage pack h = absurd (true≢false (sym h))
+
+pub plain-package : (code : ℕ) (pack : List ℕ) → classOf code ≡ Plain → packageBytes (layoutOf code .behind) pack ≡ []
+plain-package code pack e = no-package (layoutOf code .behind) pack (plain-row (λ code l. bare-behind (l .behind)) plain-bare code e)
 
 -- of the secure bodies 14, 16, 44 and 46 do, and no other
 tail : ℕ → Layout → Bool
