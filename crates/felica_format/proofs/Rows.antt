@@ -1,6 +1,7 @@
 -- What holds of every row of the two tables, computed once over the rows.
 -- Assumes nothing.
 use Prim.Native.Nat.{ℕ, _<_}
+use native.Mathlib.Omega.{arith}
 use mathlib.Core.Path.{_≡_, refl, sym, ap, _∙_, subst}
 use mathlib.Core.Logic.{_⊎_, inl, inr}
 use mathlib.Core.Bool.{Bool, true, false, not, cond, _||_, true≢false}
@@ -8,13 +9,14 @@ use mathlib.Core.List.{List, [], _∷_}
 use lib.Dec.{ltb, leb, eqb}
 use borrow.Author.Tests.{ltb-true, leb-true, eqb-true}
 use Rattle.felica_format.specs.declared.classes.Class.the-variants.{Plain, Secure, Unknown}
+use Rattle.felica_format.specs.declared.classes.Class.{Class}
 use Rattle.felica_format.specs.Basic.{_and_, isOneOf}
 use Rattle.felica_format.specs.Layout.{Codes, noCodes, _to_, Behind, nothing, ignoredBytes, aPackage, Layout, Row, plainRows, secureRows}
-use Rattle.felica_format.specs.Layout.{has, classOf, layoutIn, layoutOf, boundsOf}
+use Rattle.felica_format.specs.Layout.{ends, bare, has, classOf, layoutIn, layoutOf, boundsOf}
 use Rattle.felica_format.specs.Read.{sizeOf}
 use Rattle.felica_format.specs.Write.{packageBytes}
 use Rattle.felica_format.specs.Demand3.{secureReadsAndWrites, MayFollow}
-use Rattle.felica_format.proofs.Tests.{and-left, and-right}
+use Rattle.felica_format.proofs.Tests.{and-left, and-right, or-none}
 use Rattle.felica_format.proofs.Ending.{Left}
 use Rattle.felica_format.proofs.Body.{Narrow}
 
@@ -88,6 +90,32 @@ plain-layout code e = narrow-of code (layoutOf code) (plain-row narrow plain-nar
 
 pub secure-layout : (code : ℕ) → classOf code ≡ Secure → Narrow (layoutOf code)
 secure-layout code e = narrow-of code (layoutOf code) (secure-row narrow secure-narrow code e)
+
+-- a code without a row has the layout of no bytes
+none-in : (rows : List Row) (code : ℕ) → has rows code ≡ false → layoutIn rows code ≡ ends bare
+unfolding has layoutIn
+none-in [] code h = refl
+none-in (row ∷ rows) code h =
+    let other = or-none (eqb code (row .code)) (has rows code) h in
+    rw (other .0) (none-in rows code (other .1))
+
+unknown-layout : (code : ℕ) → classOf code ≡ Unknown → layoutOf code ≡ ends bare
+unfolding classOf layoutOf
+unknown-layout code e = go (has plainRows code) (has secureRows code) refl e
+  where
+    go : (a b : Bool) → has secureRows code ≡ b → cond a Plain (cond b Secure Unknown) ≡ Unknown → cond a (layoutIn plainRows code) (layoutIn secureRows code) ≡ ends bare
+    go true b q e = cc
+    go false true q e = cc
+    go false false q e = none-in secureRows code q
+
+-- whatever the code
+pub every-layout : (code : ℕ) → Narrow (layoutOf code)
+every-layout code = go (classOf code) refl
+  where
+    go : (k : Class) → classOf code ≡ k → Narrow (layoutOf code)
+    go Plain e = plain-layout code e
+    go Secure e = secure-layout code e
+    go Unknown e = rw (unknown-layout code e) (record { first = omega arith; second = omega arith; ending = omega arith })
 
 -- "10's two share theirs": where a plain layout has a second code list, its bounds are the first one's
 shares : Codes → Codes → Bool

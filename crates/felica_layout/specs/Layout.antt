@@ -2,7 +2,6 @@
 -- Assumes nothing.
 use Prim.Native.Nat.{ℕ}
 use Rattle.felica_format.specs.declared.classes.Class.{Class}
-use Rattle.felica_format.specs.declared.classes.Class.the-variants.{Plain, Secure, Unknown}
 use Rattle.felica_format.specs.declared.constants.Bounds.{Bounds}
 use Rattle.felica_format.specs.Layout as format
 use Rattle.felica_format.specs.Layout.{classOf, layoutOf}
@@ -16,7 +15,6 @@ use Rattle.felica_layout.specs.declared.Behind.{Behind}
 use Rattle.felica_layout.specs.declared.Behind.the-variants.{Nothing, IgnoredBytes, Package}
 use Rattle.felica_layout.specs.declared.Layout.{Layout}
 use Rattle.felica_layout.specs.declared.Row.{Row}
-use Rattle.felica_layout.specs.declared.Row.the-variants.{Plain as PlainRow, Secure as SecureRow, Unknown as UnknownRow}
 
 abbrev pub selectorMeant : Selector → format.Selector
 selectorMeant NoSelector = format.noSelector
@@ -45,21 +43,16 @@ layoutMeant l =
     format.layout (l .idm) (selectorMeant (l .selector)) (codesMeant (l .first)) (codesMeant (l .second)) (l .elements) (l .«block_data»)
     (endingMeant (l .ending)) (behindMeant (l .behind))
 
--- a code's class and, of a known one, its layout
-pub data Known : Type 0 where
-  plain : format.Layout → Known
-  secure : format.Layout → Known
-  unknown : Known
+-- the class of a code and its layout
+pub record RowMeant : Type 0 where
+  pub class : Class
+  pub layout : format.Layout
 
-abbrev pub knownAs : Class → format.Layout → Known
-knownAs Plain l = plain l
-knownAs Secure l = secure l
-knownAs Unknown l = unknown
+abbrev pub row : Class → format.Layout → RowMeant
+row class l = record { class = class; layout = l }
 
-unfoldable pub known : ℕ → Known
-known code = knownAs (classOf code) (layoutOf code)
+unfoldable pub rowOf : ℕ → RowMeant
+rowOf code = row (classOf code) (layoutOf code)
 
-abbrev pub rowMeant : Row → Known
-rowMeant (PlainRow l) = plain (layoutMeant l)
-rowMeant (SecureRow l) = secure (layoutMeant l)
-rowMeant UnknownRow = unknown
+abbrev pub rowMeant : Row → RowMeant
+rowMeant r = row (r .class) (layoutMeant (r .layout))

@@ -1,8 +1,10 @@
 // The layout of each command: one order of parts, each there or not, as specs/Layout.antt of felica_format has it in document 01's words.
 ghost use mathlib.Core.Path.{_≡_};
 ghost use mathlib.Core.Bool.{true, false};
-ghost use Rattle.felica_format.specs.Layout.{layout, noSelector, noCodes, _to_, bytes, bare, nothing, has, plainRows};
-ghost use Rattle.felica_layout.specs.Layout.{selectorMeant, endingMeant, behindMeant, plain, secure, known, rowMeant};
+ghost use Rattle.felica_format.specs.Layout.{layout, noSelector, noCodes, _to_, bytes, bare, nothing, ends, has, plainRows};
+ghost use Rattle.felica_format.specs.declared.classes.Class.the-variants.{Plain, Secure, Unknown};
+ghost use Rattle.felica_layout.specs.Layout.{selectorMeant, endingMeant, behindMeant, row, rowMeant, rowOf};
+use felica_format::classes::Class;
 use felica_format::constants;
 use felica_format::constants::Bounds;
 use felica_format::constants::NODE_PROPERTY_CODES;
@@ -59,15 +61,14 @@ pub struct Layout {
     pub behind: Behind,
 }
 
-// The layout that a code has, and whether it is a plain one.
-pub enum Row {
-    Plain(Layout),
-    Secure(Layout),
-    Unknown,
+// The class of a code, and its layout; an unknown code has no bytes.
+pub struct Row {
+    pub class: Class,
+    pub layout: Layout,
 }
 
 pub fn row_of(code: u8) -> Row
-    ensures { λ r. ⌜ rowMeant r ≡ known code ⌝ }
+    ensures { λ r. ⌜ rowMeant r ≡ rowOf code ⌝ }
 {
     match code {
         constants::POLLING_COMMAND_CODE => fixed(false, Ending::Polling),
@@ -109,7 +110,7 @@ pub fn row_of(code: u8) -> Row
 
 fn secure_row(code: u8) -> Row
     requires { ⌜ has plainRows code ≡ false ⌝ }
-    ensures { λ r. ⌜ rowMeant r ≡ known code ⌝ }
+    ensures { λ r. ⌜ rowMeant r ≡ rowOf code ⌝ }
 {
     match code {
         constants::READ_COMMAND_CODE | constants::READ_V2_COMMAND_CODE => payload_row(
@@ -138,85 +139,118 @@ fn secure_row(code: u8) -> Row
             Ending::Bytes(0),
             Behind::Nothing,
         ),
-        _ => Row::Unknown,
+        _ => unknown_row(),
     }
 }
 
 // Without a list.
 fn fixed(idm: bool, ending: Ending) -> Row
-    ensures { λ r. ⌜ rowMeant r ≡ plain (layout idm noSelector noCodes noCodes false false (endingMeant ending) nothing) ⌝ }
+    ensures { λ r. ⌜ rowMeant r ≡ row Plain (layout idm noSelector noCodes noCodes false false (endingMeant ending) nothing) ⌝ }
 {
-    Row::Plain(Layout {
-        idm: idm,
-        selector: Selector::NoSelector,
-        first: Codes::NoCodes,
-        second: Codes::NoCodes,
-        elements: false,
-        block_data: false,
-        ending: ending,
-        behind: Behind::Nothing,
-    })
+    Row {
+        class: Class::Plain,
+        layout: Layout {
+            idm: idm,
+            selector: Selector::NoSelector,
+            first: Codes::NoCodes,
+            second: Codes::NoCodes,
+            elements: false,
+            block_data: false,
+            ending: ending,
+            behind: Behind::Nothing,
+        },
+    }
 }
 
 // With one code list, and a challenge or none.
 fn coded(selector: Selector, bounds: Bounds, challenge: usize) -> Row
-    ensures { λ r. ⌜ rowMeant r ≡ plain (layout true (selectorMeant selector) (bounds .least to bounds .greatest) noCodes false false (bytes challenge) nothing) ⌝ }
+    ensures { λ r. ⌜ rowMeant r ≡ row Plain (layout true (selectorMeant selector) (bounds .least to bounds .greatest) noCodes false false (bytes challenge) nothing) ⌝ }
 {
-    Row::Plain(Layout {
-        idm: true,
-        selector: selector,
-        first: Codes::Counted(bounds),
-        second: Codes::NoCodes,
-        elements: false,
-        block_data: false,
-        ending: Ending::Bytes(challenge),
-        behind: Behind::Nothing,
-    })
+    Row {
+        class: Class::Plain,
+        layout: Layout {
+            idm: true,
+            selector: selector,
+            first: Codes::Counted(bounds),
+            second: Codes::NoCodes,
+            elements: false,
+            block_data: false,
+            ending: Ending::Bytes(challenge),
+            behind: Behind::Nothing,
+        },
+    }
 }
 
 // With areas and services.
 fn two_code_lists() -> Row
-    ensures { λ r. ⌜ rowMeant r ≡ plain (layout true noSelector (0 to 32) (0 to 32) false false (bytes 8) nothing) ⌝ }
+    ensures { λ r. ⌜ rowMeant r ≡ row Plain (layout true noSelector (0 to 32) (0 to 32) false false (bytes 8) nothing) ⌝ }
 {
     let bounds = constants::AREA_AND_SERVICE_CODES;
-    Row::Plain(Layout {
-        idm: true,
-        selector: Selector::NoSelector,
-        first: Codes::Counted(bounds),
-        second: Codes::Counted(bounds),
-        elements: false,
-        block_data: false,
-        ending: Ending::Bytes(8),
-        behind: Behind::Nothing,
-    })
+    Row {
+        class: Class::Plain,
+        layout: Layout {
+            idm: true,
+            selector: Selector::NoSelector,
+            first: Codes::Counted(bounds),
+            second: Codes::Counted(bounds),
+            elements: false,
+            block_data: false,
+            ending: Ending::Bytes(8),
+            behind: Behind::Nothing,
+        },
+    }
 }
 
 fn codes_and_blocks(block_data: bool) -> Row
-    ensures { λ r. ⌜ rowMeant r ≡ plain (layout true noSelector (1 to 16) noCodes true «block_data» bare nothing) ⌝ }
+    ensures { λ r. ⌜ rowMeant r ≡ row Plain (layout true noSelector (1 to 16) noCodes true «block_data» bare nothing) ⌝ }
 {
-    Row::Plain(Layout {
-        idm: true,
-        selector: Selector::NoSelector,
-        first: Codes::Counted(constants::RW_SERVICE_CODES),
-        second: Codes::NoCodes,
-        elements: true,
-        block_data: block_data,
-        ending: Ending::Bytes(0),
-        behind: Behind::Nothing,
-    })
+    Row {
+        class: Class::Plain,
+        layout: Layout {
+            idm: true,
+            selector: Selector::NoSelector,
+            first: Codes::Counted(constants::RW_SERVICE_CODES),
+            second: Codes::NoCodes,
+            elements: true,
+            block_data: block_data,
+            ending: Ending::Bytes(0),
+            behind: Behind::Nothing,
+        },
+    }
 }
 
 fn payload_row(elements: bool, block_data: bool, ending: Ending, behind: Behind) -> Row
-    ensures { λ r. ⌜ rowMeant r ≡ secure (layout false noSelector noCodes noCodes elements «block_data» (endingMeant ending) (behindMeant behind)) ⌝ }
+    ensures { λ r. ⌜ rowMeant r ≡ row Secure (layout false noSelector noCodes noCodes elements «block_data» (endingMeant ending) (behindMeant behind)) ⌝ }
 {
-    Row::Secure(Layout {
-        idm: false,
-        selector: Selector::NoSelector,
-        first: Codes::NoCodes,
-        second: Codes::NoCodes,
-        elements: elements,
-        block_data: block_data,
-        ending: ending,
-        behind: behind,
-    })
+    Row {
+        class: Class::Secure,
+        layout: Layout {
+            idm: false,
+            selector: Selector::NoSelector,
+            first: Codes::NoCodes,
+            second: Codes::NoCodes,
+            elements: elements,
+            block_data: block_data,
+            ending: ending,
+            behind: behind,
+        },
+    }
+}
+
+fn unknown_row() -> Row
+    ensures { λ r. ⌜ rowMeant r ≡ row Unknown (ends bare) ⌝ }
+{
+    Row {
+        class: Class::Unknown,
+        layout: Layout {
+            idm: false,
+            selector: Selector::NoSelector,
+            first: Codes::NoCodes,
+            second: Codes::NoCodes,
+            elements: false,
+            block_data: false,
+            ending: Ending::Bytes(0),
+            behind: Behind::Nothing,
+        },
+    }
 }

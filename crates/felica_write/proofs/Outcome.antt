@@ -8,7 +8,7 @@ use mathlib.Core.List.{List, [], _∷_, _++_}
 use mathlib.Core.Option.{none, some}
 use lib.ListN.{length, drop}
 use lib.Dec.{ltb, leb}
-use borrow.Author.Tests.{lt-ltb, le-ltb, le-leb, lt-leb}
+use borrow.Author.Tests.{lt-ltb, le-ltb, le-leb, lt-leb, ltb-true, ltb-false}
 use Rattle.felica_format.specs.declared.classes.Class.{Class}
 use Rattle.felica_format.specs.declared.classes.Class.the-variants.{Plain, Secure, Unknown}
 use Rattle.felica_format.specs.Basic.{_and_}
@@ -18,13 +18,16 @@ use Rattle.felica_format.specs.Write.{packageBytes, bodyBytes, frameOf, secureO
 use Rattle.felica_format.specs.Writable.{bodyOk, fitsClass, writable, shortest, written}
 use Rattle.felica_format.proofs.Tests.{and-both}
 use Rattle.felica_format.proofs.Body.{Narrow}
-use Rattle.felica_format.proofs.Rows.{plain-layout, secure-layout, plain-package}
-use Rattle.felica_layout.specs.Layout.{plain, secure, unknown, knownAs, known}
+use Rattle.felica_format.proofs.Rows.{every-layout, plain-package}
+use Rattle.felica_layout.specs.Layout.{row, rowOf}
 use Rattle.felica_put.specs.Put.{Buffer, buffer, put}
 use Rattle.felica_put.proofs.Laws.{put-front}
 use Rattle.felica_writable.proofs.Laws.{stop, pass}
 use Rattle.felica_write.specs.Size.{Few, frontSize}
 use Rattle.felica_write.specs.Body.{Ready}
+use Rattle.felica_write.specs.Head.{headBytes, roomFor}
+use Rattle.felica_write.specs.declared.head.Room.{Room}
+use Rattle.felica_write.specs.declared.head.Room.the-variants.{NoFrame, TooSmall, Enough}
 use Rattle.felica_write.specs.Writing.{wrote, refused, outcome, stored, writing}
 use Rattle.felica_write.proofs.Ready.{ready, body-length}
 
@@ -45,127 +48,131 @@ module _ (c : Command) (out : List ℕ) where
         let front = e ∙ put-front s out h in
         rw (ok, is, le-ltb (length out) (length s) h, ap (λ b. b .bytes) front, ap (λ b. b .next) front)
 
--- the class and the layout of a row
-known-plain : (code : ℕ) (l : Layout) → known code ≡ plain l → (classOf code ≡ Plain) × (layoutOf code ≡ l)
-unfolding known
-known-plain code l e = go (classOf code) (layoutOf code) e
-  where
-    go : (k : Class) (m : Layout) → knownAs k m ≡ plain l → (k ≡ Plain) × (m ≡ l)
-    go Plain m e = (refl, cc)
-    go Secure m e = (cc, cc)
-    go Unknown m e = (cc, cc)
-
-known-secure : (code : ℕ) (l : Layout) → known code ≡ secure l → (classOf code ≡ Secure) × (layoutOf code ≡ l)
-unfolding known
-known-secure code l e = go (classOf code) (layoutOf code) e
-  where
-    go : (k : Class) (m : Layout) → knownAs k m ≡ secure l → (k ≡ Secure) × (m ≡ l)
-    go Plain m e = (cc, cc)
-    go Secure m e = (refl, cc)
-    go Unknown m e = (cc, cc)
-
 -- so few entries that no sum of sizes overflows
 pub few : (l : Layout) (c : Command) → Ready l c → Few l (length (c .first)) (length (c .second)) (length (c .numbers)) (length (c .blockData))
 few l c r =
     record { first-few = r .few-first; second-few = r .few-second; blocks-few = r .few-blocks; data-few = r .few-data; ending-few = r .few-fixed }
 
--- a plain command: its frame
-module _ (c : Command) (l : Layout) (k : known (c .code) ≡ plain l) where
-  pub plain-narrow : Narrow l
-  plain-narrow = subst Narrow (known-plain (c .code) l k .1) (plain-layout (c .code) (known-plain (c .code) l k .0))
+-- what the tests of the room say
+is-no-frame : (a b : Bool) → cond a NoFrame (cond b TooSmall Enough) ≡ NoFrame → a ≡ true
+is-no-frame true b r = refl
+is-no-frame false true r = cc
+is-no-frame false false r = cc
 
-  pub plain-ready : bodyOk l c ≡ true → Ready l c
-  plain-ready ok = ready l c plain-narrow ok
+is-too-small : (a b : Bool) → cond a NoFrame (cond b TooSmall Enough) ≡ TooSmall → (a ≡ false) × (b ≡ true)
+is-too-small true b r = (cc, cc)
+is-too-small false true r = (refl, refl)
+is-too-small false false r = (refl, cc)
 
-  -- its size, without a package
-  pub frame-size : bodyOk l c ≡ true → frontSize l (length (c .first)) (length (c .second)) (c .numbers) (length (c .blockData)) ≡ length (bodyBytes l [] c)
-  frame-size ok =
-      let none : packageBytes (l .behind) (c .issuePackage) ≡ [] =
-      subst (λ (m : Layout). packageBytes (m .behind) (c .issuePackage) ≡ []) (known-plain (c .code) l k .1) (plain-package (c .code) (c .issuePackage) (known-plain (c .code) l k .0)) in
-      let empty : length (c .issuePackage) ≡ 0 = ap length (sym (plain-ready ok .all-package) ∙ none) in
-      omega (arith, body-length l c plain-narrow ok, empty)
+is-enough : (a b : Bool) → cond a NoFrame (cond b TooSmall Enough) ≡ Enough → (a ≡ false) × (b ≡ false)
+is-enough true b r = (cc, cc)
+is-enough false true r = (refl, cc)
+is-enough false false r = (refl, refl)
 
-  -- the frame by this layout
-  frame : List ℕ
-  frame = suc (suc (length (bodyBytes l [] c))) ∷ c .code ∷ bodyBytes l [] c
+is-small : (b : Bool) → cond b TooSmall Enough ≡ TooSmall → b ≡ true
+is-small true r = refl
+is-small false r = cc
 
-  frame-is : shortest (classOf (c .code)) c ≡ frame
-  unfolding frameOf frame
-  frame-is = rw (known-plain (c .code) l k .0, known-plain (c .code) l k .1)
+is-room : (b : Bool) → cond b TooSmall Enough ≡ Enough → b ≡ false
+is-room true r = cc
+is-room false r = refl
 
-  plain-writable : writable c ≡ (bodyOk l c and leb (length frame) 255)
-  unfolding writable frameOf frame
-  plain-writable = rw (known-plain (c .code) l k .0, known-plain (c .code) l k .1)
+never-no-frame : (b : Bool) → cond b TooSmall Enough ≡ NoFrame → ⊥
+never-no-frame true r = let z : _≡_ {A = ℕ} 0 1 = cc in omega arith
+never-no-frame false r = let z : _≡_ {A = ℕ} 0 1 = cc in omega arith
 
-  module _ (out : List ℕ) where
-    pub frame-unwritten : bodyOk l c ≡ false → outcome (refused 22 (some (c .code))) out ≡ writing c out
-    frame-unwritten e = unwritten c out (plain-writable ∙ rw e (sym (stop false _ refl)))
+not-small : NoFrame ≡ TooSmall → ⊥
+not-small r = let z : _≡_ {A = ℕ} 0 1 = cc in omega arith
 
-    module _ (ok : bodyOk l c ≡ true) where
-      pub frame-too-long : 255 < suc (suc (length (bodyBytes l [] c))) → outcome (refused 22 (some (c .code))) out ≡ writing c out
-      unfolding frame
-      frame-too-long h = unwritten c out (plain-writable ∙ sym (pass _ _ ok) ∙ lt-leb _ 255 h)
+not-room : NoFrame ≡ Enough → ⊥
+not-room r = let z : _≡_ {A = ℕ} 0 1 = cc in omega arith
 
-      module _ (h : suc (suc (length (bodyBytes l [] c))) ≤ 255) where
-        may : writable c ≡ true
-        unfolding frame
-        may = plain-writable ∙ and-both ok (le-leb _ 255 h)
+not-plain : Secure ≡ Plain → ⊥
+not-plain r = let z : _≡_ {A = ℕ} 0 1 = cc in omega arith
 
-        pub frame-no-room : length out < suc (suc (length (bodyBytes l [] c))) → outcome (refused 21 (some (c .code))) out ≡ writing c out
-        unfolding frame
-        frame-no-room small = no-room c out frame may frame-is small
+-- the row of the code handed in
+module _ (c : Command) (k : Class) (l : Layout) (found : row k l ≡ rowOf (c .code)) where
+  class-is : k ≡ classOf (c .code)
+  unfolding rowOf
+  class-is = ap (λ r. r .class) found
 
-        pub frame-stored : (after : List ℕ) (n : ℕ) → suc (suc (length (bodyBytes l [] c))) ≤ length out
-            → buffer after n ≡ put (buffer out 0) (suc (suc (length (bodyBytes l [] c))) ∷ c .code ∷ bodyBytes l [] c) → outcome (wrote n) after ≡ writing c out
-        unfolding frame
-        frame-stored after n room e = stored-whole c out frame may frame-is after n room e
+  layout-is : l ≡ layoutOf (c .code)
+  unfolding rowOf
+  layout-is = ap (λ r. r .layout) found
 
--- a secure command: its payload
-module _ (c : Command) (l : Layout) (k : known (c .code) ≡ secure l) where
-  pub secure-narrow : Narrow l
-  secure-narrow = subst Narrow (known-secure (c .code) l k .1) (secure-layout (c .code) (known-secure (c .code) l k .0))
+  pub narrow : Narrow l
+  narrow = subst Narrow (sym layout-is) (every-layout (c .code))
 
-  pub secure-ready : bodyOk l c ≡ true → Ready l c
-  secure-ready ok = ready l c secure-narrow ok
+  frame-is : frameOf [] c ≡ suc (suc (length (bodyBytes l [] c))) ∷ c .code ∷ bodyBytes l [] c
+  unfolding frameOf
+  frame-is = rw layout-is
 
-  pub payload-size : bodyOk l c ≡ true
-      → frontSize l (length (c .first)) (length (c .second)) (c .numbers) (length (c .blockData)) + length (c .issuePackage) ≡ length (bodyBytes l [] c)
-  payload-size ok = body-length l c secure-narrow ok
-
-  payload-is : shortest (classOf (c .code)) c ≡ bodyBytes l [] c
+  payload-is : secureOf [] c ≡ bodyBytes l [] c
   unfolding secureOf
-  payload-is = rw (known-secure (c .code) l k .0, known-secure (c .code) l k .1)
+  payload-is = rw layout-is
 
-  secure-writable : writable c ≡ (bodyOk l c and true)
+  pub no-body : (out : List ℕ) → bodyOk l c ≡ false → outcome (refused 22 (some (c .code))) out ≡ writing c out
   unfolding writable
-  secure-writable = rw (known-secure (c .code) l k .0, known-secure (c .code) l k .1)
+  no-body out e = unwritten c out (sym (stop _ _ (ap (λ (m : Layout). bodyOk m c) (sym layout-is) ∙ e)))
 
-  module _ (out : List ℕ) where
-    pub payload-unwritten : bodyOk l c ≡ false → outcome (refused 22 (some (c .code))) out ≡ writing c out
-    payload-unwritten e = unwritten c out (secure-writable ∙ rw e (sym (stop false _ refl)))
+  -- what the class decides, where the body has `size` bytes in front of the package
+  module _ (ok : bodyOk l c ≡ true) (size : ℕ) (sum : size ≡ frontSize l (length (c .first)) (length (c .second)) (c .numbers) (length (c .blockData))) where
+    whole : size + length (c .issuePackage) ≡ length (bodyBytes l [] c)
+    whole = rw sum (body-length l c narrow ok)
 
-    module _ (ok : bodyOk l c ≡ true) where
-      may-secure : writable c ≡ true
-      may-secure = secure-writable ∙ and-both ok refl
+    -- a plain command has no package
+    plain-whole : k ≡ Plain → suc (suc (length (bodyBytes l [] c))) ≡ 2 + size
+    plain-whole e =
+        let none = plain-package (c .code) (c .issuePackage) (sym class-is ∙ e) in
+        let all = ready l c narrow ok .all-package in
+        let empty : length (c .issuePackage) ≡ 0 = ap length (sym all ∙ ap (λ (m : Layout). packageBytes (m .behind) (c .issuePackage)) layout-is ∙ none) in
+        omega (arith, whole, empty)
 
-      pub payload-no-room : length out < length (bodyBytes l [] c) → outcome (refused 21 (some (c .code))) out ≡ writing c out
-      payload-no-room small = no-room c out (bodyBytes l [] c) may-secure payload-is small
+    module _ (out : List ℕ) where
+      no-frame : (j : Class) → k ≡ j → roomFor j size (length (c .issuePackage)) (length out) ≡ NoFrame → fitsClass j c ≡ false
+      no-frame Plain e r =
+          rw (frame-is, plain-whole e) (lt-leb (2 + size) 255 (omega (arith, ltb-true 253 size (is-no-frame (ltb 253 size) (ltb (length out) (2 + size)) r))))
+      no-frame Secure e r = absurd (never-no-frame (ltb (length out) (size + length (c .issuePackage))) r)
+      no-frame Unknown e r = refl
 
-      pub payload-stored : (after : List ℕ) (n : ℕ) → length (bodyBytes l [] c) ≤ length out
-          → buffer after n ≡ put (buffer out 0) (bodyBytes l [] c) → outcome (wrote n) after ≡ writing c out
-      payload-stored after n room e = stored-whole c out (bodyBytes l [] c) may-secure payload-is after n room e
+      too-small : (j : Class) → k ≡ j → roomFor j size (length (c .issuePackage)) (length out) ≡ TooSmall
+          → (fitsClass j c ≡ true) × (length out < length (shortest j c))
+      too-small Plain e r =
+          let tests = is-too-small (ltb 253 size) (ltb (length out) (2 + size)) r in
+          rw (frame-is, plain-whole e)
+          (le-leb (2 + size) 255 (omega (arith, ltb-false 253 size (tests .0))), ltb-true (length out) (2 + size) (tests .1))
+      too-small Secure e r = rw (payload-is, sym whole) (refl, ltb-true _ _ (is-small (ltb (length out) (size + length (c .issuePackage))) r))
+      too-small Unknown e r = absurd (not-small r)
 
--- an unknown code
-never : (b : Bool) → (b and false) ≡ false
-unfolding _and_
-never true = refl
-never false = refl
+      enough : (j : Class) → k ≡ j → roomFor j size (length (c .issuePackage)) (length out) ≡ Enough
+          → (fitsClass j c ≡ true) × (length (shortest j c) ≤ length out) × (shortest j c ≡ headBytes j (c .code) size ++ bodyBytes l [] c)
+      enough Plain e r =
+          let tests = is-enough (ltb 253 size) (ltb (length out) (2 + size)) r in
+          rw (frame-is, plain-whole e)
+          (le-leb (2 + size) 255 (omega (arith, ltb-false 253 size (tests .0))), ltb-false (length out) (2 + size) (tests .1), refl)
+      enough Secure e r = rw (payload-is) (refl, omega (arith, whole, ltb-false (length out) (size + length (c .issuePackage)) (is-room (ltb (length out) (size + length (c .issuePackage))) r)), refl)
+      enough Unknown e r = absurd (not-room r)
 
-pub unknown-unwritten : (c : Command) (out : List ℕ) → unknown ≡ known (c .code) → outcome (refused 22 (some (c .code))) out ≡ writing c out
-unfolding known writable
-unknown-unwritten c out e = unwritten c out (go (classOf (c .code)) (layoutOf (c .code)) e)
-  where
-    go : (k : Class) (m : Layout) → unknown ≡ knownAs k m → (bodyOk m c and fitsClass k c) ≡ false
-    go Plain m e = cc
-    go Secure m e = cc
-    go Unknown m e = never (bodyOk m c)
+      may : (b : Bool) → fitsClass k c ≡ b → writable c ≡ b
+      unfolding writable
+      may b e = sym (pass _ _ (ap (λ (m : Layout). bodyOk m c) (sym layout-is) ∙ ok)) ∙ ap (λ (j : Class). fitsClass j c) (sym class-is) ∙ e
+
+      pub frame-too-long : roomFor k size (length (c .issuePackage)) (length out) ≡ NoFrame → outcome (refused 22 (some (c .code))) out ≡ writing c out
+      frame-too-long r = unwritten c out (may false (no-frame k refl r))
+
+      pub buffer-too-small : roomFor k size (length (c .issuePackage)) (length out) ≡ TooSmall → outcome (refused 21 (some (c .code))) out ≡ writing c out
+      buffer-too-small r =
+          let h = too-small k refl r in
+          no-room c out (shortest k c) (may true (h .0)) (ap (λ (j : Class). shortest j c) (sym class-is)) (h .1)
+
+      pub all-stored : roomFor k size (length (c .issuePackage)) (length out) ≡ Enough → (after : List ℕ) (n : ℕ)
+          → buffer after n ≡ put (buffer out 0) (headBytes k (c .code) size ++ bodyBytes l [] c) → outcome (wrote n) after ≡ writing c out
+      all-stored r after n e =
+          let h = enough k refl r in
+          stored-whole c out (shortest k c) (may true (h .0)) (ap (λ (j : Class). shortest j c) (sym class-is)) after n (h .1) (e ∙ ap (put (buffer out 0)) (sym (h .2)))
+
+-- the length byte of a frame that there is room for
+pub one-byte : (k : Class) (size pack room : ℕ) → roomFor k size pack room ≡ Enough → k ≡ Plain → 2 + size ≤ 255
+one-byte Plain size pack room r e = omega (arith, ltb-false 253 size (is-enough (ltb 253 size) (ltb room (2 + size)) r .0))
+one-byte Secure size pack room r e = absurd (not-plain e)
+one-byte Unknown size pack room r e = absurd (not-room r)

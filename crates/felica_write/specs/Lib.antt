@@ -1,4 +1,5 @@
--- What the writer answers and writes: Writing is the definition of its contract; Size and Body serve the proof.
+-- What the writer answers and writes: Writing is the definition of its contract; Size, Body and Head serve the proof.
 pub mod Writing
 pub mod Size
 pub mod Body
+pub mod Head

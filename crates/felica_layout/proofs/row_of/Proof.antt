@@ -2,7 +2,7 @@
 -- Assumes nothing.
 use mathlib.Core.Path.{sym, _∙_}
 use Rattle.felica_format.specs.Layout.{classOf, layoutOf, layoutIn, has, plainRows, secureRows}
-use Rattle.felica_layout.specs.Layout.{known}
+use Rattle.felica_layout.specs.Layout.{rowOf}
 use Rattle.felica_layout.proofs.Rows.{code-list, idm-alone, idm-and-word, idm-and-reserved, not-plain}
 use borrow.Author.Needs.{needs}
 use Rattle.felica_layout.proofs.row_of.Statement.{statement}
@@ -77,7 +77,7 @@ secure-row-requires c κs =
     (c .match .rest .1)
 
 returns : tie.Need-returns
-unfolding known classOf layoutOf layoutIn has plainRows secureRows
+unfolding rowOf classOf layoutOf layoutIn has plainRows secureRows
 returns c = rw (c .before .match .keys1) (c .fixed .ensures)
 
 returns-2 : tie.Need-returns-2
@@ -87,53 +87,53 @@ returns-3 : tie.Need-returns-3
 returns-3 c = c .fixed2 .ensures ∙ sym (idm-alone _ (c .before .match .keys3))
 
 returns-4 : tie.Need-returns-4
-unfolding known classOf layoutOf layoutIn has plainRows secureRows
+unfolding rowOf classOf layoutOf layoutIn has plainRows secureRows
 returns-4 c = rw (c .before .match .keys4) (c .codes-and-blocks .ensures)
 
 returns-5 : tie.Need-returns-5
-unfolding known classOf layoutOf layoutIn has plainRows secureRows
+unfolding rowOf classOf layoutOf layoutIn has plainRows secureRows
 returns-5 c = rw (c .before .match .keys5) (c .codes-and-blocks2 .ensures)
 
 returns-6 : tie.Need-returns-6
 returns-6 c = c .fixed3 .ensures ∙ sym (idm-and-word _ (c .before .match .keys6))
 
 returns-7 : tie.Need-returns-7
-unfolding known classOf layoutOf layoutIn has plainRows secureRows
+unfolding rowOf classOf layoutOf layoutIn has plainRows secureRows
 returns-7 c = rw (c .before .match .keys7) (c .two-code-lists .ensures)
 
 returns-8 : tie.Need-returns-8
-unfolding known classOf layoutOf layoutIn has plainRows secureRows
+unfolding rowOf classOf layoutOf layoutIn has plainRows secureRows
 returns-8 c = rw (c .before .match .keys8) (c .fixed4 .ensures)
 
 returns-9 : tie.Need-returns-9
-unfolding known classOf layoutOf layoutIn has plainRows secureRows
+unfolding rowOf classOf layoutOf layoutIn has plainRows secureRows
 returns-9 c = rw (c .before .match .keys9) (c .fixed5 .ensures)
 
 returns-10 : tie.Need-returns-10
-unfolding known classOf layoutOf layoutIn has plainRows secureRows
+unfolding rowOf classOf layoutOf layoutIn has plainRows secureRows
 returns-10 c = rw (c .before .match .keys10) (c .fixed6 .ensures)
 
 returns-11 : tie.Need-returns-11
 returns-11 c = c .fixed7 .ensures ∙ sym (idm-and-reserved _ (c .before .match .keys11))
 
 returns-12 : tie.Need-returns-12
-unfolding known classOf layoutOf layoutIn has plainRows secureRows
+unfolding rowOf classOf layoutOf layoutIn has plainRows secureRows
 returns-12 c = rw (c .before .match .keys12) (c .coded2 .ensures)
 
 returns-13 : tie.Need-returns-13
-unfolding known classOf layoutOf layoutIn has plainRows secureRows
+unfolding rowOf classOf layoutOf layoutIn has plainRows secureRows
 returns-13 c = rw (c .before .match .keys13) (c .fixed8 .ensures)
 
 returns-14 : tie.Need-returns-14
-unfolding known classOf layoutOf layoutIn has plainRows secureRows
+unfolding rowOf classOf layoutOf layoutIn has plainRows secureRows
 returns-14 c = rw (c .before .match .keys14) (c .coded3 .ensures)
 
 returns-15 : tie.Need-returns-15
-unfolding known classOf layoutOf layoutIn has plainRows secureRows
+unfolding rowOf classOf layoutOf layoutIn has plainRows secureRows
 returns-15 c = rw (c .before .match .keys15) (c .fixed9 .ensures)
 
 returns-16 : tie.Need-returns-16
-unfolding known classOf layoutOf layoutIn has plainRows secureRows
+unfolding rowOf classOf layoutOf layoutIn has plainRows secureRows
 returns-16 c = rw (c .before .match .keys16) (c .fixed10 .ensures)
 
 returns-17 : tie.Need-returns-17

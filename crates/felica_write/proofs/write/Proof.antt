@@ -1,11 +1,16 @@
--- `felica_write::write` meets its contract.
+-- `felica_write::write` meets its contract, case by case.
 -- Assumes nothing.
+use Prim.Native.Nat.{ℕ}
 use denote.Ref.{now}
 use mathlib.Core.Path.{sym, ap, _∙_}
+use borrow.Author.Tests.{not-true, not-false}
+use Rattle.felica_format.specs.Command.{Command}
 use Rattle.felica_command.specs.Handed.{handed}
-use Rattle.felica_layout.specs.Layout.{rowMeant}
+use Rattle.felica_layout.specs.Layout.{layoutMeant}
+use Rattle.felica_put.proofs.Laws.{put-then}
 use Rattle.felica_write.specs.Writing.{meaning, outcome}
-use Rattle.felica_write.proofs.Outcome.{unknown-unwritten}
+use Rattle.felica_write.proofs.Ready.{ready}
+use Rattle.felica_write.proofs.Outcome.{few, narrow, no-body, frame-too-long, buffer-too-small, all-stored, one-byte}
 use borrow.Author.Needs.{needs}
 use Rattle.felica_write.proofs.write.Statement.{statement}
 use Rattle.felica_write.proofs.write.Tie as tie
@@ -13,56 +18,105 @@ use Rattle.felica_write.proofs.write.Tie as tie
 row-of-requires : tie.Need-row-of-requires
 row-of-requires c κs = search needs
 
-enum-known-row : tie.Need-enum-known-row
-enum-known-row c = search needs
-
-write-frame-requires : tie.Need-write-frame-requires
-write-frame-requires c κs = sym (c .before .before .before .before .row-of .ensures) ∙ ap rowMeant (c .before .before .row .given .1)
-
-enum-known-row-2 : tie.Need-enum-known-row-2
-enum-known-row-2 c = search needs
-
-write-payload-requires : tie.Need-write-payload-requires
-write-payload-requires c κs = sym (c .before .before .before .before .row-of .ensures) ∙ ap rowMeant (c .before .before .row2 .given .1)
-
-enum-told : tie.Need-enum-told
-enum-told c = search needs
+is-writable-requires : tie.Need-is-writable-requires
+is-writable-requires c κs = search needs
 
 refused-requires : tie.Need-refused-requires
 refused-requires c κs = search needs
 
-same-length : tie.Need-same-length
-same-length c = search needs
-
 returns : tie.Need-returns
-returns c = search needs
+returns c =
+    let a = c .before .before .before .before .before .before .before .before .before .before .before .before .before .args in
+    let h = handed (a .code) (a .fixed) (now (a .first)) (now (a .second)) (now (a .numbers)) (now (a .places)) (now (a .modes)) (now (a .«data»)) (now (a .«package»)) in
+    let out = now (a .out) in
+    let row = c .before .before .before .before .row-of in
+    ap (λ r. outcome (meaning r) out) (c .refused .ensures) ∙ no-body h (row .result .class) (layoutMeant (row .result .layout)) (row .ensures) out (sym (c .before .before .is-writable .ensures (a .code)) ∙ not-true _ (c .before .if1 .taken))
 
-same-length-2 : tie.Need-same-length-2
-same-length-2 c = search needs
+body-size-requires : tie.Need-body-size-requires
+body-size-requires c κs =
+    let a = c .before .before .before .before .before .before .before .before .before .before .before .before .args in
+    let h = handed (a .code) (a .fixed) (now (a .first)) (now (a .second)) (now (a .numbers)) (now (a .places)) (now (a .modes)) (now (a .«data»)) (now (a .«package»)) in
+    let row = c .before .before .before .row-of in
+    let ok = sym (c .before .is-writable .ensures (a .code)) ∙ not-false _ (c .if1 .left) in
+    few _ h (ready _ h (narrow h (row .result .class) (layoutMeant (row .result .layout)) (row .ensures)) ok)
+
+room-for-requires : tie.Need-room-for-requires
+room-for-requires c κs = search needs
+
+enum-told : tie.Need-enum-told
+enum-told c = search needs
+
+refused-requires-2 : tie.Need-refused-requires-2
+refused-requires-2 c κs = search needs
+
+enum-told-2 : tie.Need-enum-told-2
+enum-told-2 c = search needs
+
+refused-requires-3 : tie.Need-refused-requires-3
+refused-requires-3 c κs = search needs
+
+enum-told-3 : tie.Need-enum-told-3
+enum-told-3 c = search needs
+
+put-head-requires : tie.Need-put-head-requires
+put-head-requires c κs = one-byte _ _ _ _ (sym (c .before .before .before .room-for .ensures) ∙ c .before .enum-told3 .given .1)
+
+put-body-requires : tie.Need-put-body-requires
+put-body-requires c κs =
+    let a = c .before .before .before .before .before .before .before .before .before .before .before .before .before .before .before .before .before .before .before .before .before .args in
+    let h : ℕ → Command = λ code. handed code (a .fixed) (now (a .first)) (now (a .second)) (now (a .numbers)) (now (a .places)) (now (a .modes)) (now (a .«data»)) (now (a .«package»)) in
+    let row = c .before .before .before .before .before .before .before .before .before .before .before .before .row-of in
+    ready _ (h 0) (narrow (h (a .code)) (row .result .class) (layoutMeant (row .result .layout)) (row .ensures)) (sym (c .before .before .before .before .before .before .before .before .before .before .is-writable .ensures 0) ∙ not-false _ (c .before .before .before .before .before .before .before .before .before .if1 .left))
 
 returns-2 : tie.Need-returns-2
-returns-2 c = search needs
+returns-2 c =
+    let a = c .before .before .before .before .before .before .before .before .before .before .before .before .before .before .before .before .before .args in
+    let h = handed (a .code) (a .fixed) (now (a .first)) (now (a .second)) (now (a .numbers)) (now (a .places)) (now (a .modes)) (now (a .«data»)) (now (a .«package»)) in
+    let out = now (a .out) in
+    let row = c .before .before .before .before .before .before .before .before .row-of in
+    let ok = sym (c .before .before .before .before .before .before .is-writable .ensures (a .code)) ∙ not-false _ (c .before .before .before .before .before .if1 .left) in
+    ap (λ r. outcome (meaning r) out) (c .refused2 .ensures) ∙ frame-too-long h (row .result .class) (layoutMeant (row .result .layout)) (row .ensures) ok _ (c .before .before .before .before .body-size .ensures .0) out (sym (c .before .before .before .room-for .ensures) ∙ c .before .enum-told .given .1)
 
 returns-3 : tie.Need-returns-3
 returns-3 c =
-    let a = c .before .before .before .before .before .before .before .before .before .before .before .before .args in
-    let h = (handed (a .code) (a .fixed) (now (a .first)) (now (a .second)) (now (a .numbers)) (now (a .places)) (now (a .modes)) (now (a .«data»)) (now (a .«package»))) in
+    let a = c .before .before .before .before .before .before .before .before .before .before .before .before .before .before .before .before .before .args in
+    let h = handed (a .code) (a .fixed) (now (a .first)) (now (a .second)) (now (a .numbers)) (now (a .places)) (now (a .modes)) (now (a .«data»)) (now (a .«package»)) in
     let out = now (a .out) in
-    ap (λ r. outcome (meaning r) out) (c .refused .ensures) ∙ unknown-unwritten h out (sym (ap rowMeant (c .before .enum-told .given .1)) ∙ c .before .before .before .row-of .ensures)
+    let row = c .before .before .before .before .before .before .before .before .row-of in
+    let ok = sym (c .before .before .before .before .before .before .is-writable .ensures (a .code)) ∙ not-false _ (c .before .before .before .before .before .if1 .left) in
+    ap (λ r. outcome (meaning r) out) (c .refused3 .ensures) ∙ buffer-too-small h (row .result .class) (layoutMeant (row .result .layout)) (row .ensures) ok _ (c .before .before .before .before .body-size .ensures .0) out (sym (c .before .before .before .room-for .ensures) ∙ c .before .enum-told2 .given .1)
+
+same-length : tie.Need-same-length
+same-length c = search needs
+
+returns-4 : tie.Need-returns-4
+returns-4 c =
+    let a = c .before .before .before .before .before .before .before .before .before .before .before .before .before .before .before .before .before .before .before .before .before .before .before .before .args in
+    let h = handed (a .code) (a .fixed) (now (a .first)) (now (a .second)) (now (a .numbers)) (now (a .places)) (now (a .modes)) (now (a .«data»)) (now (a .«package»)) in
+    let out = now (a .out) in
+    let row = c .before .before .before .before .before .before .before .before .before .before .before .before .before .before .before .row-of in
+    let ok = sym (c .before .before .before .before .before .before .before .before .before .before .before .before .before .is-writable .ensures (a .code)) ∙ not-false _ (c .before .before .before .before .before .before .before .before .before .before .before .before .if1 .left) in
+    all-stored h (row .result .class) (layoutMeant (row .result .layout)) (row .ensures) ok _ (c .before .before .before .before .before .before .before .before .before .before .before .body-size .ensures .0) out (sym (c .before .before .before .before .before .before .before .before .before .before .room-for .ensures) ∙ c .before .before .before .before .before .before .before .before .enum-told3 .given .1) _ _
+    (put-then _ _ _ (c .before .before .before .before .before .before .put-head .ensures) (c .before .before .put-body .ensures (a .code)))
 
 pub write-spec : {M : Type 1} → statement M
 write-spec =
     tie.close
     (tie.spec
     row-of-requires
-    enum-known-row
-    write-frame-requires
-    enum-known-row-2
-    write-payload-requires
-    enum-told
+    is-writable-requires
     refused-requires
-    same-length
     returns
-    same-length-2
+    body-size-requires
+    room-for-requires
+    enum-told
+    refused-requires-2
+    enum-told-2
+    refused-requires-3
+    enum-told-3
+    put-head-requires
+    put-body-requires
     returns-2
-    returns-3)
+    returns-3
+    same-length
+    returns-4)
