@@ -59,42 +59,23 @@ fn greatest_of(ending: Ending) -> Greatest
     ensures { λ r. ⌜ ranges (suc (r .number)) (suc (r .index)) (suc (r .option)) (rangesOf (endingMeant ending) .choices) (r .challenge) ≡ rangesOf (endingMeant ending) ⌝ }
 {
     match ending {
-        Ending::Bytes(count) => Greatest {
-            number: 0,
-            index: 0,
-            option: 0,
-            challenge: count,
-        },
-        Ending::Word => Greatest {
-            number: u16::MAX,
-            index: 0,
-            option: 0,
-            challenge: 0,
-        },
-        Ending::Words => Greatest {
-            number: u16::MAX,
-            index: u16::MAX,
-            option: 0,
-            challenge: 0,
-        },
-        Ending::Reserved => Greatest {
-            number: 0,
-            index: 0,
-            option: 0,
-            challenge: 0,
-        },
-        Ending::Polling => Greatest {
-            number: u16::MAX,
-            index: 0,
-            option: 2,
-            challenge: 0,
-        },
-        Ending::Parameter => Greatest {
-            number: 0,
-            index: 0,
-            option: 1,
-            challenge: 0,
-        },
+        Ending::Bytes(count) => greatest_values(0, 0, 0, count),
+        Ending::Word => greatest_values(u16::MAX, 0, 0, 0),
+        Ending::Words => greatest_values(u16::MAX, u16::MAX, 0, 0),
+        Ending::Reserved => greatest_values(0, 0, 0, 0),
+        Ending::Polling => greatest_values(u16::MAX, 0, 2, 0),
+        Ending::Parameter => greatest_values(0, 0, 1, 0),
+    }
+}
+
+fn greatest_values(number: u16, index: u16, option: u8, challenge: usize) -> Greatest
+    ensures { λ r. ⌜ r ≡ record { number = number; index = index; option = option; challenge = challenge } ⌝ }
+{
+    Greatest {
+        number: number,
+        index: index,
+        option: option,
+        challenge: challenge,
     }
 }
 

@@ -3,6 +3,7 @@
 use Prim.Native.Nat.{ℕ, suc, _+_, _≤_, _<_}
 use native.Mathlib.Omega.{arith}
 use mathlib.Core.Path.{_≡_, refl, sym, ap, _∙_, subst}
+use mathlib.Core.Logic.{_⊎_, inl, inr, ⊎-elim}
 use mathlib.Core.Bool.{Bool, true, false, cond}
 use mathlib.Core.List.{List, [], _∷_, _++_}
 use mathlib.Core.Option.{none, some}
@@ -25,9 +26,9 @@ use Rattle.felica_put.proofs.Laws.{put-front}
 use Rattle.felica_writable.proofs.Laws.{stop, pass}
 use Rattle.felica_write.specs.Size.{Few, frontSize}
 use Rattle.felica_write.specs.Body.{Ready}
-use Rattle.felica_write.specs.Head.{headBytes, roomFor}
+use Rattle.felica_write.specs.Head.{headBytes, frameRoom, payloadRoom, roomFor}
 use Rattle.felica_write.specs.declared.head.Room.{Room}
-use Rattle.felica_write.specs.declared.head.Room.the-variants.{NoFrame, TooSmall, Enough}
+use Rattle.felica_write.specs.declared.head.Room.the-variants.{Enough, Refused}
 use Rattle.felica_write.specs.Writing.{wrote, refused, outcome, stored, writing}
 use Rattle.felica_write.proofs.Ready.{ready, body-length}
 
@@ -38,9 +39,9 @@ module _ (c : Command) (out : List ℕ) where
   unwritten e = rw e
 
   module _ (s : List ℕ) (ok : writable c ≡ true) (is : shortest (classOf (c .code)) c ≡ s) where
-    pub no-room : length out < length s → outcome (refused 21 (some (c .code))) out ≡ writing c out
+    pub buffer-small : length out < length s → outcome (refused 21 (some (c .code))) out ≡ writing c out
     unfolding writing written
-    no-room h = rw (ok, is, lt-ltb (length out) (length s) h)
+    buffer-small h = rw (ok, is, lt-ltb (length out) (length s) h)
 
     pub stored-whole : (after : List ℕ) (n : ℕ) → length s ≤ length out → buffer after n ≡ put (buffer out 0) s → outcome (wrote n) after ≡ writing c out
     unfolding writing written
@@ -54,38 +55,20 @@ few l c r =
     record { first-few = r .few-first; second-few = r .few-second; blocks-few = r .few-blocks; data-few = r .few-data; ending-few = r .few-fixed }
 
 -- what the tests of the room say
-is-no-frame : (a b : Bool) → cond a NoFrame (cond b TooSmall Enough) ≡ NoFrame → a ≡ true
-is-no-frame true b r = refl
-is-no-frame false true r = cc
-is-no-frame false false r = cc
+enough-tests : (a b : Bool) → cond a (Refused 22) (cond b (Refused 21) Enough) ≡ Enough → (a ≡ false) × (b ≡ false)
+enough-tests true b r = (cc, cc)
+enough-tests false true r = (refl, cc)
+enough-tests false false r = (refl, refl)
 
-is-too-small : (a b : Bool) → cond a NoFrame (cond b TooSmall Enough) ≡ TooSmall → (a ≡ false) × (b ≡ true)
-is-too-small true b r = (cc, cc)
-is-too-small false true r = (refl, refl)
-is-too-small false false r = (refl, cc)
+enough-test : (b : Bool) → cond b (Refused 21) Enough ≡ Enough → b ≡ false
+enough-test true r = cc
+enough-test false r = refl
 
-is-enough : (a b : Bool) → cond a NoFrame (cond b TooSmall Enough) ≡ Enough → (a ≡ false) × (b ≡ false)
-is-enough true b r = (cc, cc)
-is-enough false true r = (refl, cc)
-is-enough false false r = (refl, refl)
+not-enough : {g : ℕ} → Refused g ≡ Enough → ⊥
+not-enough r = let z : _≡_ {A = ℕ} 0 1 = cc in omega arith
 
-is-small : (b : Bool) → cond b TooSmall Enough ≡ TooSmall → b ≡ true
-is-small true r = refl
-is-small false r = cc
-
-is-room : (b : Bool) → cond b TooSmall Enough ≡ Enough → b ≡ false
-is-room true r = cc
-is-room false r = refl
-
-never-no-frame : (b : Bool) → cond b TooSmall Enough ≡ NoFrame → ⊥
-never-no-frame true r = let z : _≡_ {A = ℕ} 0 1 = cc in omega arith
-never-no-frame false r = let z : _≡_ {A = ℕ} 0 1 = cc in omega arith
-
-not-small : NoFrame ≡ TooSmall → ⊥
-not-small r = let z : _≡_ {A = ℕ} 0 1 = cc in omega arith
-
-not-room : NoFrame ≡ Enough → ⊥
-not-room r = let z : _≡_ {A = ℕ} 0 1 = cc in omega arith
+not-refused : {g : ℕ} → Enough ≡ Refused g → ⊥
+not-refused r = let z : _≡_ {A = ℕ} 0 1 = cc in omega arith
 
 not-plain : Secure ≡ Plain → ⊥
 not-plain r = let z : _≡_ {A = ℕ} 0 1 = cc in omega arith
@@ -129,41 +112,61 @@ module _ (c : Command) (k : Class) (l : Layout) (found : row k l ≡ rowOf (c .c
         omega (arith, whole, empty)
 
     module _ (out : List ℕ) where
-      no-frame : (j : Class) → k ≡ j → roomFor j size (length (c .issuePackage)) (length out) ≡ NoFrame → fitsClass j c ≡ false
-      no-frame Plain e r =
-          rw (frame-is, plain-whole e) (lt-leb (2 + size) 255 (omega (arith, ltb-true 253 size (is-no-frame (ltb 253 size) (ltb (length out) (2 + size)) r))))
-      no-frame Secure e r = absurd (never-no-frame (ltb (length out) (size + length (c .issuePackage))) r)
-      no-frame Unknown e r = refl
+      -- a ground that the room gives is the writer's
+      Ground : Class → ℕ → Type 0
+      Ground j g = ((g ≡ 22) × (fitsClass j c ≡ false)) ⊎ ((g ≡ 21) × (fitsClass j c ≡ true) × (length out < length (shortest j c)))
 
-      too-small : (j : Class) → k ≡ j → roomFor j size (length (c .issuePackage)) (length out) ≡ TooSmall
-          → (fitsClass j c ≡ true) × (length out < length (shortest j c))
-      too-small Plain e r =
-          let tests = is-too-small (ltb 253 size) (ltb (length out) (2 + size)) r in
-          rw (frame-is, plain-whole e)
-          (le-leb (2 + size) 255 (omega (arith, ltb-false 253 size (tests .0))), ltb-true (length out) (2 + size) (tests .1))
-      too-small Secure e r = rw (payload-is, sym whole) (refl, ltb-true _ _ (is-small (ltb (length out) (size + length (c .issuePackage))) r))
-      too-small Unknown e r = absurd (not-small r)
+      frame-ground : (g : ℕ) → k ≡ Plain → frameRoom size (length out) ≡ Refused g → Ground Plain g
+      unfolding Ground
+      frame-ground g e r = go (ltb 253 size) (ltb (length out) (2 + size)) refl refl r
+        where
+          go : (a b : Bool) → ltb 253 size ≡ a → ltb (length out) (2 + size) ≡ b → cond a (Refused 22) (cond b (Refused 21) Enough) ≡ Refused g
+              → ((g ≡ 22) × (fitsClass Plain c ≡ false)) ⊎ ((g ≡ 21) × (fitsClass Plain c ≡ true) × (length out < length (shortest Plain c)))
+          go true b long small r = inl (cc, rw (frame-is, plain-whole e) (lt-leb (2 + size) 255 (omega (arith, ltb-true 253 size long))))
+          go false true long small r =
+              inr
+              (cc, rw (frame-is, plain-whole e) (le-leb (2 + size) 255 (omega (arith, ltb-false 253 size long))), rw (frame-is, plain-whole e) (ltb-true (length out) (2 + size) small))
+          go false false long small r = absurd (not-refused r)
+
+      payload-ground : (g : ℕ) → payloadRoom size (length (c .issuePackage)) (length out) ≡ Refused g → Ground Secure g
+      unfolding Ground
+      payload-ground g r = go (ltb (length out) (size + length (c .issuePackage))) refl r
+        where
+          go : (b : Bool) → ltb (length out) (size + length (c .issuePackage)) ≡ b → cond b (Refused 21) Enough ≡ Refused g
+              → ((g ≡ 22) × (fitsClass Secure c ≡ false)) ⊎ ((g ≡ 21) × (fitsClass Secure c ≡ true) × (length out < length (shortest Secure c)))
+          go true small r = inr (cc, refl, rw (payload-is, sym whole) (ltb-true _ _ small))
+          go false small r = absurd (not-refused r)
+
+      ground : (j : Class) (g : ℕ) → k ≡ j → roomFor j size (length (c .issuePackage)) (length out) ≡ Refused g → Ground j g
+      unfolding Ground
+      ground Plain g e r = frame-ground g e r
+      ground Secure g e r = payload-ground g r
+      ground Unknown g e r = inl (cc, refl)
 
       enough : (j : Class) → k ≡ j → roomFor j size (length (c .issuePackage)) (length out) ≡ Enough
           → (fitsClass j c ≡ true) × (length (shortest j c) ≤ length out) × (shortest j c ≡ headBytes j (c .code) size ++ bodyBytes l [] c)
       enough Plain e r =
-          let tests = is-enough (ltb 253 size) (ltb (length out) (2 + size)) r in
+          let tests = enough-tests (ltb 253 size) (ltb (length out) (2 + size)) r in
           rw (frame-is, plain-whole e)
           (le-leb (2 + size) 255 (omega (arith, ltb-false 253 size (tests .0))), ltb-false (length out) (2 + size) (tests .1), refl)
-      enough Secure e r = rw (payload-is) (refl, omega (arith, whole, ltb-false (length out) (size + length (c .issuePackage)) (is-room (ltb (length out) (size + length (c .issuePackage))) r)), refl)
-      enough Unknown e r = absurd (not-room r)
+      enough Secure e r =
+          let room = ltb-false (length out) (size + length (c .issuePackage)) (enough-test (ltb (length out) (size + length (c .issuePackage))) r) in
+          rw payload-is (refl, omega (arith, whole, room), refl)
+      enough Unknown e r = absurd (not-enough r)
 
       may : (b : Bool) → fitsClass k c ≡ b → writable c ≡ b
       unfolding writable
       may b e = sym (pass _ _ (ap (λ (m : Layout). bodyOk m c) (sym layout-is) ∙ ok)) ∙ ap (λ (j : Class). fitsClass j c) (sym class-is) ∙ e
 
-      pub frame-too-long : roomFor k size (length (c .issuePackage)) (length out) ≡ NoFrame → outcome (refused 22 (some (c .code))) out ≡ writing c out
-      frame-too-long r = unwritten c out (may false (no-frame k refl r))
+      pub no-room : (g : ℕ) → roomFor k size (length (c .issuePackage)) (length out) ≡ Refused g → outcome (refused g (some (c .code))) out ≡ writing c out
+      unfolding Ground
+      no-room g r = ⊎-elim too-long too-small (ground k g refl r)
+        where
+          too-long : (g ≡ 22) × (fitsClass k c ≡ false) → outcome (refused g (some (c .code))) out ≡ writing c out
+          too-long h = rw (h .0) (unwritten c out (may false (h .1)))
 
-      pub buffer-too-small : roomFor k size (length (c .issuePackage)) (length out) ≡ TooSmall → outcome (refused 21 (some (c .code))) out ≡ writing c out
-      buffer-too-small r =
-          let h = too-small k refl r in
-          no-room c out (shortest k c) (may true (h .0)) (ap (λ (j : Class). shortest j c) (sym class-is)) (h .1)
+          too-small : (g ≡ 21) × (fitsClass k c ≡ true) × (length out < length (shortest k c)) → outcome (refused g (some (c .code))) out ≡ writing c out
+          too-small h = rw (h .0) (buffer-small c out (shortest k c) (may true (h .1)) (ap (λ (j : Class). shortest j c) (sym class-is)) (h .2))
 
       pub all-stored : roomFor k size (length (c .issuePackage)) (length out) ≡ Enough → (after : List ℕ) (n : ℕ)
           → buffer after n ≡ put (buffer out 0) (headBytes k (c .code) size ++ bodyBytes l [] c) → outcome (wrote n) after ≡ writing c out
@@ -173,6 +176,6 @@ module _ (c : Command) (k : Class) (l : Layout) (found : row k l ≡ rowOf (c .c
 
 -- the length byte of a frame that there is room for
 pub one-byte : (k : Class) (size pack room : ℕ) → roomFor k size pack room ≡ Enough → k ≡ Plain → 2 + size ≤ 255
-one-byte Plain size pack room r e = omega (arith, ltb-false 253 size (is-enough (ltb 253 size) (ltb room (2 + size)) r .0))
+one-byte Plain size pack room r e = omega (arith, ltb-false 253 size (enough-tests (ltb 253 size) (ltb room (2 + size)) r .0))
 one-byte Secure size pack room r e = absurd (not-plain e)
-one-byte Unknown size pack room r e = absurd (not-room r)
+one-byte Unknown size pack room r e = absurd (not-enough r)

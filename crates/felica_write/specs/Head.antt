@@ -7,7 +7,7 @@ use lib.Dec.{ltb}
 use Rattle.felica_format.specs.declared.classes.Class.{Class}
 use Rattle.felica_format.specs.declared.classes.Class.the-variants.{Plain, Secure, Unknown}
 use Rattle.felica_write.specs.declared.head.Room.{Room}
-use Rattle.felica_write.specs.declared.head.Room.the-variants.{NoFrame, TooSmall, Enough}
+use Rattle.felica_write.specs.declared.head.Room.the-variants.{Enough, Refused}
 
 -- the length byte and the code byte
 abbrev pub headBytes : Class → ℕ → ℕ → List ℕ
@@ -16,12 +16,12 @@ headBytes Secure code size = []
 headBytes Unknown code size = []
 
 abbrev pub frameRoom : ℕ → ℕ → Room
-frameRoom size room = cond (ltb 253 size) NoFrame (cond (ltb room (2 + size)) TooSmall Enough)
+frameRoom size room = cond (ltb 253 size) (Refused 22) (cond (ltb room (2 + size)) (Refused 21) Enough)
 
 abbrev pub payloadRoom : ℕ → ℕ → ℕ → Room
-payloadRoom size pack room = cond (ltb room (size + pack)) TooSmall Enough
+payloadRoom size pack room = cond (ltb room (size + pack)) (Refused 21) Enough
 
 abbrev pub roomFor : Class → ℕ → ℕ → ℕ → Room
 roomFor Plain size pack room = frameRoom size room
 roomFor Secure size pack room = payloadRoom size pack room
-roomFor Unknown size pack room = NoFrame
+roomFor Unknown size pack room = Refused 22

@@ -7,16 +7,16 @@ ghost use Rattle.felica_put.specs.Put.{buffer, put};
 ghost use Rattle.felica_write.specs.Head.{roomFor, frameRoom, payloadRoom, headBytes};
 use felica_format::classes::Class;
 use felica_format::constants::MAX_PACKET_LEN;
+use felica_format::error;
 use felica_put::put_byte;
 
 // Bytes in front of the body of a frame.
 const HEAD_LEN: usize = 2;
 
 pub(crate) enum Room {
-    // Longer than a frame can be, or of no class.
-    NoFrame,
-    TooSmall,
     Enough,
+    // By 22 where no frame is so long, by 21 where the buffer is too small.
+    Refused(u8),
 }
 
 // Whether there is room for a body of `size` bytes and a package behind it.
@@ -26,7 +26,7 @@ pub(crate) fn room_for(class: Class, size: usize, package: usize, room: usize) -
     match class {
         Class::Plain => frame_room(size, room),
         Class::Secure => payload_room(size, package, room),
-        Class::Unknown => Room::NoFrame,
+        Class::Unknown => Room::Refused(error::UNWRITABLE),
     }
 }
 
@@ -35,10 +35,10 @@ fn frame_room(size: usize, room: usize) -> Room
     ensures { λ r. ⌜ r ≡ frameRoom size room ⌝ }
 {
     if MAX_PACKET_LEN - HEAD_LEN < size {
-        return Room::NoFrame;
+        return Room::Refused(error::UNWRITABLE);
     }
     if room < HEAD_LEN + size {
-        return Room::TooSmall;
+        return Room::Refused(error::BUFFER_TOO_SMALL);
     }
     Room::Enough
 }
@@ -48,10 +48,10 @@ fn payload_room(size: usize, package: usize, room: usize) -> Room
     ensures { λ r. ⌜ r ≡ payloadRoom size «package» room ⌝ }
 {
     if room < size {
-        return Room::TooSmall;
+        return Room::Refused(error::BUFFER_TOO_SMALL);
     }
     if room - size < package {
-        return Room::TooSmall;
+        return Room::Refused(error::BUFFER_TOO_SMALL);
     }
     Room::Enough
 }

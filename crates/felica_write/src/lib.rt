@@ -58,27 +58,24 @@ pub fn write(
     }
     let size = body_size(layout, first.len(), second.len(), numbers, data.len());
     let room = room_for(class, size, package.len(), out.len());
-    match room {
-        Room::NoFrame => refused(error::UNWRITABLE, code),
-        Room::TooSmall => refused(error::BUFFER_TOO_SMALL, code),
-        Room::Enough => {
-            let at = put_head(out, class, code, size);
-            let end = put_body(
-                out,
-                at,
-                layout,
-                fixed,
-                first,
-                second,
-                numbers,
-                places,
-                modes,
-                data,
-                package,
-            );
-            Written::Length(end)
-        }
+    if let Room::Refused(ground) = room {
+        return refused(ground, code);
     }
+    let at = put_head(out, class, code, size);
+    let n = put_body(
+        out,
+        at,
+        layout,
+        fixed,
+        first,
+        second,
+        numbers,
+        places,
+        modes,
+        data,
+        package,
+    );
+    Written::Length(n)
 }
 
 fn refused(number: u8, code: u8) -> Written

@@ -10,7 +10,7 @@ use Rattle.felica_layout.specs.Layout.{layoutMeant}
 use Rattle.felica_put.proofs.Laws.{put-then}
 use Rattle.felica_write.specs.Writing.{meaning, outcome}
 use Rattle.felica_write.proofs.Ready.{ready}
-use Rattle.felica_write.proofs.Outcome.{few, narrow, no-body, frame-too-long, buffer-too-small, all-stored, one-byte}
+use Rattle.felica_write.proofs.Outcome.{few, narrow, no-body, no-room, all-stored, one-byte}
 use borrow.Author.Needs.{needs}
 use Rattle.felica_write.proofs.write.Statement.{statement}
 use Rattle.felica_write.proofs.write.Tie as tie
@@ -43,23 +43,26 @@ body-size-requires c κs =
 room-for-requires : tie.Need-room-for-requires
 room-for-requires c κs = search needs
 
-enum-told : tie.Need-enum-told
-enum-told c = search needs
+enum-known-room : tie.Need-enum-known-room
+enum-known-room c = search needs
 
 refused-requires-2 : tie.Need-refused-requires-2
 refused-requires-2 c κs = search needs
 
-enum-told-2 : tie.Need-enum-told-2
-enum-told-2 c = search needs
+returns-2 : tie.Need-returns-2
+returns-2 c =
+    let a = c .before .before .before .before .before .before .before .before .before .before .before .before .before .before .before .before .before .before .args in
+    let h = handed (a .code) (a .fixed) (now (a .first)) (now (a .second)) (now (a .numbers)) (now (a .places)) (now (a .modes)) (now (a .«data»)) (now (a .«package»)) in
+    let out = now (a .out) in
+    let row = c .before .before .before .before .before .before .before .before .before .row-of in
+    let ok = sym (c .before .before .before .before .before .before .before .is-writable .ensures (a .code)) ∙ not-false _ (c .before .before .before .before .before .before .if1 .left) in
+    ap (λ r. outcome (meaning r) out) (c .refused2 .ensures) ∙ no-room h (row .result .class) (layoutMeant (row .result .layout)) (row .ensures) ok _ (c .before .before .before .before .before .body-size .ensures .0) out _ (sym (c .before .before .before .before .room-for .ensures) ∙ c .before .before .room .given .1)
 
-refused-requires-3 : tie.Need-refused-requires-3
-refused-requires-3 c κs = search needs
-
-enum-told-3 : tie.Need-enum-told-3
-enum-told-3 c = search needs
+enum-told : tie.Need-enum-told
+enum-told c = search needs
 
 put-head-requires : tie.Need-put-head-requires
-put-head-requires c κs = one-byte _ _ _ _ (sym (c .before .before .before .room-for .ensures) ∙ c .before .enum-told3 .given .1)
+put-head-requires c κs = one-byte _ _ _ _ (sym (c .before .before .before .room-for .ensures) ∙ c .before .enum-told .given .1)
 
 put-body-requires : tie.Need-put-body-requires
 put-body-requires c κs =
@@ -68,35 +71,17 @@ put-body-requires c κs =
     let row = c .before .before .before .before .before .before .before .before .before .before .before .before .row-of in
     ready _ (h 0) (narrow (h (a .code)) (row .result .class) (layoutMeant (row .result .layout)) (row .ensures)) (sym (c .before .before .before .before .before .before .before .before .before .before .is-writable .ensures 0) ∙ not-false _ (c .before .before .before .before .before .before .before .before .before .if1 .left))
 
-returns-2 : tie.Need-returns-2
-returns-2 c =
-    let a = c .before .before .before .before .before .before .before .before .before .before .before .before .before .before .before .before .before .args in
-    let h = handed (a .code) (a .fixed) (now (a .first)) (now (a .second)) (now (a .numbers)) (now (a .places)) (now (a .modes)) (now (a .«data»)) (now (a .«package»)) in
-    let out = now (a .out) in
-    let row = c .before .before .before .before .before .before .before .before .row-of in
-    let ok = sym (c .before .before .before .before .before .before .is-writable .ensures (a .code)) ∙ not-false _ (c .before .before .before .before .before .if1 .left) in
-    ap (λ r. outcome (meaning r) out) (c .refused2 .ensures) ∙ frame-too-long h (row .result .class) (layoutMeant (row .result .layout)) (row .ensures) ok _ (c .before .before .before .before .body-size .ensures .0) out (sym (c .before .before .before .room-for .ensures) ∙ c .before .enum-told .given .1)
-
-returns-3 : tie.Need-returns-3
-returns-3 c =
-    let a = c .before .before .before .before .before .before .before .before .before .before .before .before .before .before .before .before .before .args in
-    let h = handed (a .code) (a .fixed) (now (a .first)) (now (a .second)) (now (a .numbers)) (now (a .places)) (now (a .modes)) (now (a .«data»)) (now (a .«package»)) in
-    let out = now (a .out) in
-    let row = c .before .before .before .before .before .before .before .before .row-of in
-    let ok = sym (c .before .before .before .before .before .before .is-writable .ensures (a .code)) ∙ not-false _ (c .before .before .before .before .before .if1 .left) in
-    ap (λ r. outcome (meaning r) out) (c .refused3 .ensures) ∙ buffer-too-small h (row .result .class) (layoutMeant (row .result .layout)) (row .ensures) ok _ (c .before .before .before .before .body-size .ensures .0) out (sym (c .before .before .before .room-for .ensures) ∙ c .before .enum-told2 .given .1)
-
 same-length : tie.Need-same-length
 same-length c = search needs
 
-returns-4 : tie.Need-returns-4
-returns-4 c =
+returns-3 : tie.Need-returns-3
+returns-3 c =
     let a = c .before .before .before .before .before .before .before .before .before .before .before .before .before .before .before .before .before .before .before .before .before .before .before .before .args in
     let h = handed (a .code) (a .fixed) (now (a .first)) (now (a .second)) (now (a .numbers)) (now (a .places)) (now (a .modes)) (now (a .«data»)) (now (a .«package»)) in
     let out = now (a .out) in
     let row = c .before .before .before .before .before .before .before .before .before .before .before .before .before .before .before .row-of in
     let ok = sym (c .before .before .before .before .before .before .before .before .before .before .before .before .before .is-writable .ensures (a .code)) ∙ not-false _ (c .before .before .before .before .before .before .before .before .before .before .before .before .if1 .left) in
-    all-stored h (row .result .class) (layoutMeant (row .result .layout)) (row .ensures) ok _ (c .before .before .before .before .before .before .before .before .before .before .before .body-size .ensures .0) out (sym (c .before .before .before .before .before .before .before .before .before .before .room-for .ensures) ∙ c .before .before .before .before .before .before .before .before .enum-told3 .given .1) _ _
+    all-stored h (row .result .class) (layoutMeant (row .result .layout)) (row .ensures) ok _ (c .before .before .before .before .before .before .before .before .before .before .before .body-size .ensures .0) out (sym (c .before .before .before .before .before .before .before .before .before .before .room-for .ensures) ∙ c .before .before .before .before .before .before .before .before .enum-told .given .1) _ _
     (put-then _ _ _ (c .before .before .before .before .before .before .put-head .ensures) (c .before .before .put-body .ensures (a .code)))
 
 pub write-spec : {M : Type 1} → statement M
@@ -109,14 +94,11 @@ write-spec =
     returns
     body-size-requires
     room-for-requires
-    enum-told
+    enum-known-room
     refused-requires-2
-    enum-told-2
-    refused-requires-3
-    enum-told-3
+    returns-2
+    enum-told
     put-head-requires
     put-body-requires
-    returns-2
-    returns-3
     same-length
-    returns-4)
+    returns-3)

@@ -1,6 +1,9 @@
 -- `felica_write::head::put_frame_head` meets its contract.
 -- Assumes nothing.
 use Rattle.felica_put.proofs.Laws.{put-then}
+-- `felica_write::head::put_frame_head` meets its contract.
+-- Assumes nothing.
+use Rattle.felica_put.proofs.Laws.{put-then}
 use borrow.Author.Needs.{needs}
 use Rattle.felica_write.proofs.head.put_frame_head.Statement.{statement}
 use Rattle.felica_write.proofs.head.put_frame_head.Tie as tie
