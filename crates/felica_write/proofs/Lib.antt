@@ -1,3 +1,4 @@
 pub mod Elements
 pub mod Ready
 pub mod Outcome
+pub mod Rules
