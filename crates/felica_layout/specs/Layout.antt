@@ -2,7 +2,6 @@
 -- Assumes nothing.
 use Prim.Native.Nat.{ℕ}
 use Rattle.felica_format.specs.declared.classes.Class.{Class}
-use Rattle.felica_format.specs.declared.constants.Bounds.{Bounds}
 use Rattle.felica_format.specs.Layout as format
 use Rattle.felica_format.specs.Layout.{classOf, layoutOf}
 use Rattle.felica_layout.specs.declared.Selector.{Selector}

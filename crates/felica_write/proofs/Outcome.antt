@@ -7,29 +7,26 @@ use mathlib.Core.Logic.{_⊎_, inl, inr, ⊎-elim}
 use mathlib.Core.Bool.{Bool, true, false, cond}
 use mathlib.Core.List.{List, [], _∷_, _++_}
 use mathlib.Core.Option.{none, some}
-use lib.ListN.{length, drop}
-use lib.Dec.{ltb, leb}
+use lib.ListN.{length}
+use lib.Dec.{ltb}
 use borrow.Author.Tests.{lt-ltb, le-ltb, le-leb, lt-leb, ltb-true, ltb-false}
 use Rattle.felica_format.specs.declared.classes.Class.{Class}
 use Rattle.felica_format.specs.declared.classes.Class.the-variants.{Plain, Secure, Unknown}
-use Rattle.felica_format.specs.Basic.{_and_}
 use Rattle.felica_format.specs.Command.{Command}
 use Rattle.felica_format.specs.Layout.{Layout, classOf, layoutOf}
 use Rattle.felica_format.specs.Write.{packageBytes, bodyBytes, frameOf, secureOf}
 use Rattle.felica_format.specs.Writable.{bodyOk, fitsClass, writable, shortest, written}
-use Rattle.felica_format.proofs.Tests.{and-both}
 use Rattle.felica_format.proofs.Body.{Narrow}
 use Rattle.felica_format.proofs.Rows.{every-layout, plain-package}
 use Rattle.felica_layout.specs.Layout.{row, rowOf}
-use Rattle.felica_put.specs.Put.{Buffer, buffer, put}
+use Rattle.felica_put.specs.Put.{buffer, put}
 use Rattle.felica_put.proofs.Laws.{put-front}
 use Rattle.felica_writable.proofs.Laws.{stop, pass}
 use Rattle.felica_write.specs.Size.{Few, frontSize}
 use Rattle.felica_write.specs.Body.{Ready}
 use Rattle.felica_write.specs.Head.{headBytes, frameRoom, payloadRoom, roomFor}
-use Rattle.felica_write.specs.declared.head.Room.{Room}
 use Rattle.felica_write.specs.declared.head.Room.the-variants.{Enough, Refused}
-use Rattle.felica_write.specs.Writing.{wrote, refused, outcome, stored, writing}
+use Rattle.felica_write.specs.Writing.{wrote, refused, outcome, writing}
 use Rattle.felica_write.proofs.Ready.{ready, body-length}
 
 -- the three outcomes

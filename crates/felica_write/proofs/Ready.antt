@@ -1,24 +1,24 @@
 -- What passes the test of a body is ready to be put, and its length is the sum of its parts'.
 -- Assumes nothing.
-use Prim.Native.Nat.{ℕ, suc, _+_, _*_, _≤_, _<_}
+use Prim.Native.Nat.{ℕ, _+_, _*_, _≤_, _<_}
 use native.Mathlib.Omega.{arith}
-use mathlib.Core.Path.{_≡_, refl, sym, ap, _∙_}
+use mathlib.Core.Path.{_≡_, refl, sym}
 use mathlib.Core.Bool.{Bool, true, false, cond}
-use mathlib.Core.List.{List, [], _∷_, _++_}
-use lib.ListN.{length, take, drop, length-append}
+use mathlib.Core.List.{List, [], _∷_}
+use lib.ListN.{length, length-append}
 use lib.Seq.{length-take-le}
-use lib.Dec.{ltb, leb, eqb}
+use lib.Dec.{ltb}
 use borrow.Author.Tests.{leb-true, eqb-true}
-use Rattle.felica_format.specs.Basic.{_and_, allBelow, wordBytes}
+use Rattle.felica_format.specs.Basic.{allBelow}
 use Rattle.felica_format.specs.Command.{EndFields, Command, Element, zipElements, elementsOf, endFieldsOf}
 use Rattle.felica_format.specs.Layout.{Selector, noSelector, typeByte, anyByte, Codes, noCodes, _to_, Ending, bytes, word, words, reserved}
 use Rattle.felica_format.specs.Layout.{polling, parameter, Behind, nothing, ignoredBytes, aPackage, Layout, boundsOf}
 use Rattle.felica_format.specs.Read.{sizeOf}
-use Rattle.felica_format.specs.Write.{idmBytes, selectorBytes, wordsBytes, codesBytes, eachBytes, elementsBytes, dataBytes, endingBytes, packageBytes, bodyBytes}
-use Rattle.felica_format.specs.Writable.{areBytes, idmOk, codesOk, oneLength, elementOk, eachOk, elementsOk, dataOk, Ranges, rangesOf, endFieldsOk}
+use Rattle.felica_format.specs.Write.{idmBytes, selectorBytes, wordsBytes, codesBytes, elementsBytes, dataBytes, endingBytes, packageBytes, bodyBytes}
+use Rattle.felica_format.specs.Writable.{idmOk, codesOk, oneLength, eachOk, elementsOk, dataOk, Ranges, rangesOf, endFieldsOk}
 use Rattle.felica_format.specs.Writable.{packageOk, bodyOk}
 use Rattle.felica_format.proofs.Tests.{and-left, and-right, and-both, isEmpty-true}
-use Rattle.felica_format.proofs.Body.{Narrow, Fits, fits-of}
+use Rattle.felica_format.proofs.Body.{Narrow, fits-of}
 use Rattle.felica_command.specs.Places.{selectorSize, codesSize}
 use Rattle.felica_writable.proofs.Laws.{zip-length}
 use Rattle.felica_write.specs.Size.{frontSize, shortSize}

@@ -3,18 +3,16 @@
 use Prim.Native.Nat.{ℕ, _≤_, _<_}
 use native.Mathlib.Omega.{arith}
 use mathlib.Core.Path.{_≡_, refl, sym, ap, _∙_, subst}
-use mathlib.Core.Logic.{_⊎_, inl, inr}
 use mathlib.Core.Bool.{Bool, true, false}
-use mathlib.Core.List.{List, [], _∷_, _++_}
+use mathlib.Core.List.{List, [], _++_}
 use mathlib.Core.Option.{Option, none, some}
 use lib.ListN.{length, take, drop}
 use lib.Seq.{take-append-seam, drop-append-seam}
 use lib.Dec.{ltb}
 use borrow.Author.Tests.{ltb-true, ltb-false, lt-ltb, le-ltb}
-use Rattle.felica_format.specs.declared.classes.Class.the-variants.{Plain, Secure}
 use Rattle.felica_format.specs.Basic.{_and_}
 use Rattle.felica_format.specs.Command.{Command}
-use Rattle.felica_format.specs.Layout.{classOf, layoutOf, layoutIn, has, plainRows}
+use Rattle.felica_format.specs.Layout.{layoutOf, layoutIn, has, plainRows}
 use Rattle.felica_format.specs.Read.{gives, readFrame, readSecure}
 use Rattle.felica_format.specs.Write.{frameOf, secureOf}
 use Rattle.felica_format.specs.Writable.{idmOk, selectorOk, codesOk, oneLength, bodyOk, writable, written}
@@ -26,7 +24,7 @@ use Rattle.felica_command.specs.declared.command.Refusal.the-variants.{Number, 
 use Rattle.felica_write.specs.declared.Written.{Written}
 use Rattle.felica_write.specs.declared.Written.the-variants.{Length, Refused}
 use Rattle.felica_write.specs.Writing.{wrote, refused, meaning, refusal, outcome, stored, store, writing}
-use Rattle.felica_write.specs.Rules.{WriterAccount, FrameParsed, PayloadParsed, FrameIs, PayloadIs, OneWriterAccount, RefusedUntouched}
+use Rattle.felica_write.specs.Rules.{WriterAccount, OneWriterAccount, RefusedUntouched}
 use Rattle.felica_write.specs.Rules.{TwentyOneExactly, TwentyTwoExactly, BehindKept, WrittenFrameRead, WrittenPayloadRead, ShortestFrame}
 use Rattle.felica_write.specs.Rules.{ShortestPayload, FramesReadAreChoices, PayloadsReadAreChoices, TwoFramesRead, TwoPayloadsRead, NumberAlone}
 

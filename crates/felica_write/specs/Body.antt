@@ -3,7 +3,6 @@
 use Prim.Native.Nat.{ℕ, _≤_}
 use mathlib.Core.Path.{_≡_}
 use mathlib.Core.Bool.{true}
-use mathlib.Core.List.{List}
 use lib.ListN.{length}
 use Rattle.felica_format.specs.Basic.{allBelow}
 use Rattle.felica_format.specs.Command.{Command, Element}

@@ -8,7 +8,6 @@ use lib.ListN.{length, drop}
 use lib.Dec.{ltb}
 use Rattle.felica_format.specs.Command.{Command}
 use Rattle.felica_format.specs.Writable.{written}
-use Rattle.felica_command.specs.declared.command.Refusal.{Refusal}
 use Rattle.felica_command.specs.declared.command.Refusal.the-variants.{Number, OfCommand}
 use Rattle.felica_write.specs.declared.Written.{Written}
 use Rattle.felica_write.specs.declared.Written.the-variants.{Length, Refused}

@@ -7,7 +7,7 @@ ghost use lib.ListN.{length, take};
 ghost use Rattle.felica_format.specs.Basic.{allBelow, wordBytes};
 ghost use Rattle.felica_format.specs.Command.{endFields, zipElements};
 ghost use Rattle.felica_format.specs.Read.{sizeOf};
-ghost use Rattle.felica_format.specs.Write.{idmBytes, selectorBytes, wordsBytes, codesBytes, elementBytes, eachBytes, elementsBytes, endingBytes, bodyBytes};
+ghost use Rattle.felica_format.specs.Write.{idmBytes, selectorBytes, wordsBytes, codesBytes, elementBytes, elementsBytes, endingBytes, bodyBytes};
 ghost use Rattle.felica_command.specs.Handed.{handed};
 ghost use Rattle.felica_layout.specs.Layout.{layoutMeant, selectorMeant, codesMeant, endingMeant};
 ghost use Rattle.felica_put.specs.Put.{buffer, put};

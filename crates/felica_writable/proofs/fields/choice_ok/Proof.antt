@@ -1,6 +1,5 @@
 -- `felica_writable::fields::choice_ok` meets its contract.
 -- Assumes nothing.
-use mathlib.Core.Path.{_∙_}
 use Rattle.felica_writable.proofs.Laws.{one-choice, two-choices}
 use borrow.Author.Needs.{needs}
 use Rattle.felica_writable.proofs.fields.choice_ok.Statement.{statement}

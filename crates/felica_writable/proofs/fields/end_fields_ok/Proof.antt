@@ -1,6 +1,6 @@
 -- `felica_writable::fields::end_fields_ok` meets its contract.
 -- Assumes nothing.
-use mathlib.Core.Path.{_≡_, sym, ap, _∙_}
+use mathlib.Core.Path.{sym, ap, _∙_}
 use borrow.Author.Tests.{not-true, not-false}
 use Rattle.felica_format.specs.Command.{endFields}
 use Rattle.felica_format.specs.Writable.{endFieldsOk}

@@ -1,7 +1,6 @@
 -- `felica_write::body::put_element` meets its contract.
 -- Assumes nothing.
-use mathlib.Core.Path.{_≡_, sym, ap, _∙_}
-use native.Mathlib.Omega.{arith}
+use mathlib.Core.Path.{sym, ap, _∙_}
 use Rattle.felica_put.specs.Put.{put}
 use Rattle.felica_format.specs.Write.{shortBytes, longBytes}
 use Rattle.felica_put.proofs.Laws.{put-then}

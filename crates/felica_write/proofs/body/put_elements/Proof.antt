@@ -6,8 +6,8 @@ use native.Mathlib.Omega.{arith}
 use denote.Ref.{now}
 use mathlib.Core.Path.{_≡_, refl, sym, ap, _∙_}
 use mathlib.Core.Bool.{false}
-use mathlib.Core.List.{[], _∷_}
-use lib.ListN.{length, drop, getD}
+use mathlib.Core.List.{[]}
+use lib.ListN.{length, drop}
 use borrow.Author.Tests.{not-true, not-false}
 use Rattle.felica_format.specs.Command.{zipElements}
 use Rattle.felica_format.specs.Write.{elementBytes, eachBytes, elementsBytes}

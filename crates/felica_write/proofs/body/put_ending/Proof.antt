@@ -1,6 +1,5 @@
 -- `felica_write::body::put_ending` meets its contract.
 -- Assumes nothing.
-use mathlib.Core.Path.{_≡_}
 use Rattle.felica_format.specs.Write.{endingBytes}
 use Rattle.felica_put.proofs.Laws.{put-then}
 use borrow.Author.Needs.{needs}

@@ -1,6 +1,5 @@
 -- `felica_write::head::frame_room` meets its contract.
 -- Assumes nothing.
-use native.Mathlib.Omega.{arith}
 use borrow.Author.Tests.{lt-ltb, le-ltb}
 use borrow.Author.Needs.{needs}
 use Rattle.felica_write.proofs.head.frame_room.Statement.{statement}

@@ -1,7 +1,6 @@
 -- `felica_write::head::put_head` meets its contract.
 -- Assumes nothing.
 use native.Mathlib.Omega.{arith}
-use mathlib.Core.Path.{refl}
 use Rattle.felica_put.specs.Put.{put}
 use borrow.Author.Needs.{needs}
 use Rattle.felica_write.proofs.head.put_head.Statement.{statement}
