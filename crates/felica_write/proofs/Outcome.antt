@@ -115,14 +115,14 @@ module _ (c : Command) (k : Class) (l : Layout) (found : row k l ≡ rowOf (c .c
 
       frame-ground : (g : ℕ) → k ≡ Plain → frameRoom size (length out) ≡ Refused g → Ground Plain g
       unfolding Ground
-      frame-ground g e r = go (ltb 253 size) (ltb (length out) (2 + size)) refl refl r
+      frame-ground g e r = go (ltb 255 (2 + size)) (ltb (length out) (2 + size)) refl refl r
         where
-          go : (a b : Bool) → ltb 253 size ≡ a → ltb (length out) (2 + size) ≡ b → cond a (Refused 22) (cond b (Refused 21) Enough) ≡ Refused g
+          go : (a b : Bool) → ltb 255 (2 + size) ≡ a → ltb (length out) (2 + size) ≡ b → cond a (Refused 22) (cond b (Refused 21) Enough) ≡ Refused g
               → ((g ≡ 22) × (fitsClass Plain c ≡ false)) ⊎ ((g ≡ 21) × (fitsClass Plain c ≡ true) × (length out < length (shortest Plain c)))
-          go true b long small r = inl (cc, rw (frame-is, plain-whole e) (lt-leb (2 + size) 255 (omega (arith, ltb-true 253 size long))))
+          go true b long small r = inl (cc, rw (frame-is, plain-whole e) (lt-leb (2 + size) 255 (ltb-true 255 (2 + size) long)))
           go false true long small r =
               inr
-              (cc, rw (frame-is, plain-whole e) (le-leb (2 + size) 255 (omega (arith, ltb-false 253 size long))), rw (frame-is, plain-whole e) (ltb-true (length out) (2 + size) small))
+              (cc, rw (frame-is, plain-whole e) (le-leb (2 + size) 255 (ltb-false 255 (2 + size) long)), rw (frame-is, plain-whole e) (ltb-true (length out) (2 + size) small))
           go false false long small r = absurd (not-refused r)
 
       payload-ground : (g : ℕ) → payloadRoom size (length (c .issuePackage)) (length out) ≡ Refused g → Ground Secure g
@@ -143,9 +143,9 @@ module _ (c : Command) (k : Class) (l : Layout) (found : row k l ≡ rowOf (c .c
       enough : (j : Class) → k ≡ j → roomFor j size (length (c .issuePackage)) (length out) ≡ Enough
           → (fitsClass j c ≡ true) × (length (shortest j c) ≤ length out) × (shortest j c ≡ headBytes j (c .code) size ++ bodyBytes l [] c)
       enough Plain e r =
-          let tests = enough-tests (ltb 253 size) (ltb (length out) (2 + size)) r in
+          let tests = enough-tests (ltb 255 (2 + size)) (ltb (length out) (2 + size)) r in
           rw (frame-is, plain-whole e)
-          (le-leb (2 + size) 255 (omega (arith, ltb-false 253 size (tests .0))), ltb-false (length out) (2 + size) (tests .1), refl)
+          (le-leb (2 + size) 255 (ltb-false 255 (2 + size) (tests .0)), ltb-false (length out) (2 + size) (tests .1), refl)
       enough Secure e r =
           let room = ltb-false (length out) (size + length (c .issuePackage)) (enough-test (ltb (length out) (size + length (c .issuePackage))) r) in
           rw payload-is (refl, omega (arith, whole, room), refl)
@@ -173,6 +173,6 @@ module _ (c : Command) (k : Class) (l : Layout) (found : row k l ≡ rowOf (c .c
 
 -- the length byte of a frame that there is room for
 pub one-byte : (k : Class) (size pack room : ℕ) → roomFor k size pack room ≡ Enough → k ≡ Plain → 2 + size ≤ 255
-one-byte Plain size pack room r e = omega (arith, ltb-false 253 size (enough-tests (ltb 253 size) (ltb room (2 + size)) r .0))
+one-byte Plain size pack room r e = ltb-false 255 (2 + size) (enough-tests (ltb 255 (2 + size)) (ltb room (2 + size)) r .0)
 one-byte Secure size pack room r e = absurd (not-plain e)
 one-byte Unknown size pack room r e = absurd (not-enough r)

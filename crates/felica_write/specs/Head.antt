@@ -16,7 +16,7 @@ headBytes Secure code size = []
 headBytes Unknown code size = []
 
 abbrev pub frameRoom : ℕ → ℕ → Room
-frameRoom size room = cond (ltb 253 size) (Refused 22) (cond (ltb room (2 + size)) (Refused 21) Enough)
+frameRoom size room = cond (ltb 255 (2 + size)) (Refused 22) (cond (ltb room (2 + size)) (Refused 21) Enough)
 
 abbrev pub payloadRoom : ℕ → ℕ → ℕ → Room
 payloadRoom size pack room = cond (ltb room (size + pack)) (Refused 21) Enough

@@ -21,6 +21,7 @@ pub(crate) enum Room {
 
 // Whether there is room for a body of `size` bytes and a package behind it.
 pub(crate) fn room_for(class: Class, size: usize, package: usize, room: usize) -> Room
+    requires { ⌜ size ≤ 6000 ⌝ }
     ensures { λ r. ⌜ r ≡ roomFor class size «package» room ⌝ }
 {
     match class {
@@ -32,12 +33,14 @@ pub(crate) fn room_for(class: Class, size: usize, package: usize, room: usize) -
 
 // A plain command has no package.
 fn frame_room(size: usize, room: usize) -> Room
+    requires { ⌜ size ≤ 6000 ⌝ }
     ensures { λ r. ⌜ r ≡ frameRoom size room ⌝ }
 {
-    if MAX_PACKET_LEN - HEAD_LEN < size {
+    let len = HEAD_LEN + size;
+    if MAX_PACKET_LEN < len {
         return Room::Refused(error::UNWRITABLE);
     }
-    if room < HEAD_LEN + size {
+    if room < len {
         return Room::Refused(error::BUFFER_TOO_SMALL);
     }
     Room::Enough
