@@ -9,14 +9,15 @@ use borrow.Author.Tests.{ne-eqb}
 use Rattle.felica_calls.specs.Field.{fieldOf, behindField, nextField, isByte}
 use Rattle.felica_calls.specs.Bytes.{Decoded, decoded}
 use Rattle.felica_calls.specs.Source.{secureSource, readCommandCode, readSource}
-use Rattle.felica_calls.specs.Call.{withBytes, askedOf, parseOf, listOf, readCall}
+use Rattle.felica_calls.specs.Write.{writeOf}
+use Rattle.felica_calls.specs.Call.{called, withBytes, askedOf, parseOf, listOf, readCall}
 use Rattle.felica_calls.specs.declared.fault.Fault.the-variants.{UnknownCall}
 use Rattle.felica_calls.specs.declared.bytes.Bytes.{Bytes}
 use Rattle.felica_calls.specs.declared.source.Source.the-variants.{Frame, Payload}
 use Rattle.felica_calls.specs.declared.source.SourceRead.the-variants.{Source as TheSource, Wrong}
 use Rattle.felica_calls.specs.declared.call.Call.{Call}
 
--- 70, 80, 83 and 76 are the codes of F, P, S and L
+-- 70, 80, 83, 76 and 87 are the codes of F, P, S, L and W
 module _ (s : List ℕ) (some : length s ≡ 0 → ⊥) where
   pub source-frame : isByte 70 (fieldOf s) ≡ true → readSource s ≡ TheSource Frame
   unfolding readSource
@@ -40,9 +41,13 @@ module _ (line held : List ℕ) (some : length line ≡ 0 → ⊥) where
   unfolding readCall
   line-list l = rw (ne-eqb _ _ some, l)
 
-  pub line-parse : isByte 76 (fieldOf line) ≡ false → readCall line held ≡ askedOf parseOf (readSource line) line held
+  pub line-write : isByte 76 (fieldOf line) ≡ false → isByte 87 (fieldOf line) ≡ true → readCall line held ≡ called (writeOf (behindField line)) held
   unfolding readCall
-  line-parse l = rw (ne-eqb _ _ some, l)
+  line-write l w = rw (ne-eqb _ _ some, l, w)
+
+  pub line-parse : isByte 76 (fieldOf line) ≡ false → isByte 87 (fieldOf line) ≡ false → readCall line held ≡ askedOf parseOf (readSource line) line held
+  unfolding readCall
+  line-parse l w = rw (ne-eqb _ _ some, l, w)
 
 -- the bytes that were found
 pub bytes-found : (make : ℕ → Call) {answer found : Bytes} {held : List ℕ} {d : Decoded} → answer ≡ found → decoded answer held ≡ d

@@ -12,7 +12,8 @@ use Rattle.felica_calls.specs.Field.{fieldOf, behindField, nextField, be
 use Rattle.felica_calls.specs.Number.{allDecimal, decimalFrom, readNumber}
 use Rattle.felica_calls.specs.Sizes.{maxLent, Lent, ifNumber, nextSize, readSizes}
 use Rattle.felica_calls.specs.Bytes.{allDigits, bytesOf, Decoded, decoded, readBytes, readLast}
-use Rattle.felica_calls.specs.Source.{readSource, behindSource}
+use Rattle.felica_calls.specs.Source.{readSource, behindSource, readCommandCode}
+use Rattle.felica_calls.specs.Write.{maxRoom, writeWith}
 use Rattle.felica_calls.specs.Call.{Called, called, withBytes, askedOf, parseOf, listWith, listOf, readCall, countOf}
 use Rattle.felica_calls.specs.declared.fault.Fault.{Fault}
 use Rattle.felica_calls.specs.declared.fault.Fault.the-variants.{EmptyLine}
@@ -23,10 +24,12 @@ use Rattle.felica_calls.specs.declared.sizes.SizesRead.the-variants.{Siz
 use Rattle.felica_calls.specs.declared.source.Source.{Source}
 use Rattle.felica_calls.specs.declared.source.SourceRead.{SourceRead}
 use Rattle.felica_calls.specs.declared.source.SourceRead.the-variants.{Source as TheSource, Wrong as WrongSource}
+use Rattle.felica_calls.specs.declared.source.Code.{Code}
+use Rattle.felica_calls.specs.declared.source.Code.the-variants.{Code as TheCode, Wrong as WrongCode}
 use Rattle.felica_calls.specs.declared.bytes.Bytes.{Bytes}
 use Rattle.felica_calls.specs.declared.bytes.Bytes.the-variants.{Count, Wrong as WrongBytes}
 use Rattle.felica_calls.specs.declared.call.Call.{Call}
-use Rattle.felica_calls.specs.declared.call.Call.the-variants.{Parse, List as ListCall, Wrong}
+use Rattle.felica_calls.specs.declared.call.Call.the-variants.{Parse, List as ListCall, Write, Wrong}
 use Rattle.felica_calls.proofs.Reading.{length-bytes}
 
 -- what holds of both answers of a test
@@ -35,30 +38,30 @@ either P true a b p q = p
 either P false a b p q = q refl
 
 -- a length is at most that of the longest buffer
-abbrev Below : Number → Type 0
-Below (TheNumber n) = n ≤ maxLent
-Below (WrongNumber fault) = Unit
+abbrev Below : ℕ → Number → Type 0
+Below most (TheNumber n) = n ≤ most
+Below most (WrongNumber fault) = Unit
 
-number-below : (s : List ℕ) → Below (readNumber maxLent s)
+number-below : (most : ℕ) (s : List ℕ) → Below most (readNumber most s)
 unfolding readNumber
-number-below s =
-    either Below (eqb (length s) 0) _ _ tt λ a.
-    either Below (not (allDecimal s)) _ _ tt λ b.
-    either Below (ltb maxLent (decimalFrom 0 s)) _ _ tt λ c.
-    ltb-false maxLent (decimalFrom 0 s) c
+number-below most s =
+    either (Below most) (eqb (length s) 0) _ _ tt λ a.
+    either (Below most) (not (allDecimal s)) _ _ tt λ b.
+    either (Below most) (ltb most (decimalFrom 0 s)) _ _ tt λ c.
+    ltb-false most (decimalFrom 0 s) c
 
 -- so are the five lengths
 abbrev AllBelow : SizesRead → Type 0
 AllBelow (TheSizes z) = Lent z
 AllBelow (WrongSizes fault) = Unit
 
-if-below : (found : Number) (f : ℕ → SizesRead) → Below found → ((n : ℕ) → n ≤ maxLent → AllBelow (f n)) → AllBelow (ifNumber found f)
+if-below : (found : Number) (f : ℕ → SizesRead) → Below maxLent found → ((n : ℕ) → n ≤ maxLent → AllBelow (f n)) → AllBelow (ifNumber found f)
 if-below (TheNumber n) f h k = k n h
 if-below (WrongNumber fault) f h k = tt
 
 next-below : (s : List ℕ) (f : ℕ → List ℕ → SizesRead) → ((n : ℕ) (rest : List ℕ) → n ≤ maxLent → AllBelow (f n rest)) → AllBelow (nextSize s f)
 unfolding nextSize
-next-below s f k = if-below (readNumber maxLent (nextField s)) _ (number-below (nextField s)) (λ n h. k n (behindNext s) h)
+next-below s f k = if-below (readNumber maxLent (nextField s)) _ (number-below maxLent (nextField s)) (λ n h. k n (behindNext s) h)
 
 sizes-below : (s : List ℕ) → AllBelow (readSizes s)
 unfolding readSizes
@@ -96,6 +99,7 @@ last-fit s held =
 abbrev pub CallLends : Call → Type 0
 CallLends (Parse source n) = Unit
 CallLends (ListCall source n z) = Lent z
+CallLends (Write size c) = size ≤ maxRoom
 CallLends (Wrong fault) = Unit
 
 record Fits (c : Called) : Type 0 where
@@ -127,11 +131,17 @@ list-fits (TheSource source) s held =
     sized-fits source (readSizes (behindNext (behindSource source s))) (behindSource source s) held (sizes-below (behindNext (behindSource source s)))
 list-fits (WrongSource fault) s held = wrong-fits fault held
 
+write-fits : (size : Number) (found : Code) (held : List ℕ) → Below maxRoom size → Fits (called (writeWith size found) held)
+write-fits (TheNumber size) (TheCode c) held h = record { count = zero-le; lends = h }
+write-fits (TheNumber size) (WrongCode fault) held h = wrong-fits fault held
+write-fits (WrongNumber fault) found held h = wrong-fits fault held
+
 call-fits : (line held : List ℕ) → Fits (readCall line held)
 unfolding readCall
 call-fits line held =
     either Fits (eqb (length line) 0) _ _ (wrong-fits EmptyLine held) λ a.
     either Fits (isByte 76 (fieldOf line)) _ _ (list-fits (readSource (drop 1 (behindField line))) (drop 1 (behindField line)) held) λ b.
+    either Fits (isByte 87 (fieldOf line)) _ _ (write-fits (readNumber maxRoom (nextField (behindField line))) (readCommandCode (nextField (behindNext (behindField line)))) held (number-below maxRoom (nextField (behindField line)))) λ c.
     parse-fits (readSource line) line held
 
 module _ (line held : List ℕ) {call : Call} {m : List ℕ} (e : called call m ≡ readCall line held) where

@@ -10,6 +10,7 @@ use Rattle.felica_calls.specs.Field.{fieldOf, behindField, nextField, be
 use Rattle.felica_calls.specs.Bytes.{Decoded, readBytes, readLast}
 use Rattle.felica_calls.specs.Source.{readSource, behindSource}
 use Rattle.felica_calls.specs.Sizes.{readSizes}
+use Rattle.felica_calls.specs.Write.{writeOf}
 use Rattle.felica_calls.specs.declared.fault.Fault.the-variants.{EmptyLine}
 use Rattle.felica_calls.specs.declared.bytes.Bytes.{Bytes}
 use Rattle.felica_calls.specs.declared.bytes.Bytes.the-variants.{Count, Wrong as WrongBytes}
@@ -19,7 +20,7 @@ use Rattle.felica_calls.specs.declared.source.SourceRead.the-variants.{S
 use Rattle.felica_calls.specs.declared.sizes.SizesRead.{SizesRead}
 use Rattle.felica_calls.specs.declared.sizes.SizesRead.the-variants.{Sizes as TheSizes, Wrong as WrongSizes}
 use Rattle.felica_calls.specs.declared.call.Call.{Call}
-use Rattle.felica_calls.specs.declared.call.Call.the-variants.{Parse, List as ListCall, Wrong}
+use Rattle.felica_calls.specs.declared.call.Call.the-variants.{Parse, List as ListCall, Write, Wrong}
 
 -- a call, and what the lent buffer holds
 pub record Called : Type 0 where
@@ -59,10 +60,12 @@ unfoldable pub readCall : List ℕ → List ℕ → Called
 readCall line buffer =
     cond (eqb (length line) 0) (called (Wrong EmptyLine) buffer)
     (cond (isByte (code "L") (fieldOf line)) (askedOf listOf (readSource (drop 1 (behindField line))) (drop 1 (behindField line)) buffer)
-    (askedOf parseOf (readSource line) line buffer))
+    (cond (isByte (code "W") (fieldOf line)) (called (writeOf (behindField line)) buffer)
+    (askedOf parseOf (readSource line) line buffer)))
 
 -- the bytes of a call
 abbrev pub countOf : Call → ℕ
 countOf (Parse source n) = n
 countOf (ListCall source n z) = n
+countOf (Write size c) = 0
 countOf (Wrong fault) = 0

@@ -6,6 +6,7 @@ use Rattle.felica_text.specs.Text.{text}
 use Rattle.felica_calls.specs.declared.fault.Fault.{Fault}
 use Rattle.felica_calls.specs.declared.fault.Fault.the-variants.{EmptyLine, LineTooLong, UnknownCall, MissingField, ExtraField}
 use Rattle.felica_calls.specs.declared.fault.Fault.the-variants.{CodeSize, NoDigit as NotADigit, OddDigits, TooManyBytes, NoNumber, BufferTooLong}
+use Rattle.felica_calls.specs.declared.fault.Fault.the-variants.{UnknownField, FieldTwice, MalformedValue, ValueTooLong}
 
 abbrev pub faultText : Fault → List ℕ
 faultText EmptyLine = text "BAD CALL: empty line"
@@ -19,3 +20,7 @@ faultText OddDigits = text "BAD CALL: odd number of hexadecimal digits"
 faultText TooManyBytes = text "BAD CALL: too many bytes"
 faultText NoNumber = text "BAD CALL: not a decimal number"
 faultText BufferTooLong = text "BAD CALL: buffer too long"
+faultText UnknownField = text "BAD CALL: unknown field"
+faultText FieldTwice = text "BAD CALL: field given twice"
+faultText MalformedValue = text "BAD CALL: malformed value"
+faultText ValueTooLong = text "BAD CALL: value too long"

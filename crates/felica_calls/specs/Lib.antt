@@ -5,4 +5,5 @@ pub mod Number
 pub mod Sizes
 pub mod Bytes
 pub mod Source
+pub mod Write
 pub mod Call

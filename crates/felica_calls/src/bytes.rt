@@ -51,7 +51,8 @@ pub(crate) fn read_bytes(field: &[u8], bytes: &mut [u8]) -> Bytes
     Bytes::Count(count)
 }
 
-fn decode(field: &[u8], bytes: &mut [u8]) -> usize
+// Pairs of digits as bytes, as many as there is room for.
+pub fn decode(field: &[u8], bytes: &mut [u8]) -> usize
     ensures { λ r. ⌜ buffer (now (bytes .exit)) r ≡ put (buffer (now (bytes .entry)) 0) (bytesOf (now (field .entry))) ⌝ }
 {
     let count = field.len() / 2;
@@ -64,7 +65,7 @@ fn decode(field: &[u8], bytes: &mut [u8]) -> usize
     next
 }
 
-pub(crate) fn all_digits(field: &[u8]) -> bool
+pub fn all_digits(field: &[u8]) -> bool
     ensures { λ r. ⌜ r ≡ allDigits (now (field .entry)) ⌝ }
 {
     let mut i = 0;

@@ -21,6 +21,7 @@ use crate::source::Source;
 use crate::source::SourceRead;
 use crate::source::behind_source;
 use crate::source::read_source;
+use crate::write::read_write;
 
 // What a line calls for, or what is wrong with it.
 pub enum Call {
@@ -28,6 +29,8 @@ pub enum Call {
     Parse(Source, usize),
     // To write their lists to buffers of these lengths.
     List(Source, usize, Sizes),
+    // To write a command of this code to a buffer of this size. Its fields stand behind the code.
+    Write(usize, u8),
     Wrong(Fault),
 }
 
@@ -37,8 +40,12 @@ pub fn read_call(line: &[u8], bytes: &mut [u8]) -> Call
     if line.len() == 0 {
         return Call::Wrong(Fault::EmptyLine);
     }
-    if is_byte(field_of(line), b'L') {
+    let name = field_of(line);
+    if is_byte(name, b'L') {
         return read_list(behind_space(behind_field(line)), bytes);
+    }
+    if is_byte(name, b'W') {
+        return read_write(behind_field(line));
     }
     read_parse(line, bytes)
 }

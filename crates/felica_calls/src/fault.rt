@@ -16,6 +16,10 @@ pub enum Fault {
     TooManyBytes,
     NoNumber,
     BufferTooLong,
+    UnknownField,
+    FieldTwice,
+    MalformedValue,
+    ValueTooLong,
 }
 
 pub fn put_fault(out: &mut [u8], at: usize, fault: Fault) -> usize
@@ -34,5 +38,9 @@ pub fn put_fault(out: &mut [u8], at: usize, fault: Fault) -> usize
         Fault::TooManyBytes => put_bytes(out, next, b"too many bytes"),
         Fault::NoNumber => put_bytes(out, next, b"not a decimal number"),
         Fault::BufferTooLong => put_bytes(out, next, b"buffer too long"),
+        Fault::UnknownField => put_bytes(out, next, b"unknown field"),
+        Fault::FieldTwice => put_bytes(out, next, b"field given twice"),
+        Fault::MalformedValue => put_bytes(out, next, b"malformed value"),
+        Fault::ValueTooLong => put_bytes(out, next, b"value too long"),
     }
 }

@@ -5,7 +5,7 @@ ghost use Rattle.felica_calls.specs.Field.{fieldOf, behindField, nextFie
 use felica_text::find::find;
 
 // The first field.
-pub(crate) fn field_of(text: &[u8]) -> &[u8]
+pub fn field_of(text: &[u8]) -> &[u8]
     ensures { λ r. ⌜ now r ≡ fieldOf (now (text .entry)) ⌝ }
 {
     let end = find(text, b' ');
@@ -43,7 +43,7 @@ pub(crate) fn behind_next(rest: &[u8]) -> &[u8]
 }
 
 // Whether a field is this one byte.
-pub(crate) fn is_byte(field: &[u8], byte: u8) -> bool
+pub fn is_byte(field: &[u8], byte: u8) -> bool
     ensures { λ r. ⌜ r ≡ isByte byte (now (field .entry)) ⌝ }
 {
     if field.len() != 1 {

@@ -23,7 +23,7 @@ pub(crate) enum SourceRead {
     Wrong(Fault),
 }
 
-enum Code {
+pub(crate) enum Code {
     Code(u8),
     Wrong(Fault),
 }
@@ -58,7 +58,7 @@ fn read_secure(rest: &[u8]) -> SourceRead
 }
 
 // A command code in its two digits.
-fn read_code(field: &[u8]) -> Code
+pub(crate) fn read_code(field: &[u8]) -> Code
     ensures { λ r. ⌜ r ≡ readCommandCode (now (field .entry)) ⌝ }
 {
     if field.len() == 0 {

@@ -1,4 +1,4 @@
--- `felica_calls::call::read_call` meets its contract: L calls the list reader, all else the parser.
+-- `felica_calls::call::read_call` meets its contract: L calls the list reader, W the writer, all else the parser.
 -- Assumes nothing.
 use borrow.Author.Tests.{eq-eqb}
 use mathlib.Core.Path.{sym, ap, _∙_}
@@ -6,8 +6,9 @@ use denote.Ref.{now}
 use lib.ListN.{drop}
 use Rattle.felica_calls.specs.Field.{isByte}
 use Rattle.felica_calls.specs.Source.{readSource}
-use Rattle.felica_calls.specs.Call.{askedOf, listOf, readCall}
-use Rattle.felica_calls.proofs.Calls.{line-list, line-parse}
+use Rattle.felica_calls.specs.Write.{writeOf}
+use Rattle.felica_calls.specs.Call.{called, askedOf, listOf, readCall}
+use Rattle.felica_calls.proofs.Calls.{line-list, line-write, line-parse}
 use borrow.Author.Needs.{needs}
 use Rattle.felica_calls.proofs.call.read_call.Statement.{statement}
 use Rattle.felica_calls.proofs.call.read_call.Tie as tie
@@ -35,10 +36,23 @@ same-length : tie.Need-same-length
 same-length c = search needs
 
 returns-2 : tie.Need-returns-2
-returns-2 c = let a = c .before .before .before .before .before .before .before .before .before .before .before .before .args in
-    let name = ap (isByte 76) (sym (c .before .before .before .before .before .before .before .before .field-of .ensures)) ∙ sym (c .before .before .before .before .before .before .before .is-byte .ensures) ∙ c .before .before .before .before .before .before .if2 .taken in
+returns-2 c = let name = ap (isByte 76) (sym (c .before .before .before .before .before .before .before .before .field-of .ensures)) ∙ sym (c .before .before .before .before .before .before .before .is-byte .ensures) ∙ c .before .before .before .before .before .before .if2 .taken in
     let text = c .before .before .before .before .behind-space .ensures ∙ ap (drop 1) (c .before .before .before .before .before .behind-field .ensures) in
-    c .before .before .read-list .ensures ∙ ap (λ t. askedOf listOf (readSource t) t (now (a .bytes))) text ∙ sym (line-list _ _ (c .before .before .before .before .before .before .before .before .before .if1 .left) name)
+    c .before .before .read-list .ensures ∙ ap (λ t. askedOf listOf (readSource t) t (now (c .before .before .before .before .before .before .before .before .before .before .before .before .args .bytes))) text ∙ sym (line-list _ _ (c .before .before .before .before .before .before .before .before .before .if1 .left) name)
+
+is-byte-requires-2 : tie.Need-is-byte-requires-2
+is-byte-requires-2 c κs = search needs
+
+behind-field-requires-2 : tie.Need-behind-field-requires-2
+behind-field-requires-2 c κs = search needs
+
+read-write-requires : tie.Need-read-write-requires
+read-write-requires c κs = search needs
+
+returns-3 : tie.Need-returns-3
+returns-3 c = let other = ap (isByte 76) (sym (c .before .before .before .before .before .before .field-of .ensures)) ∙ sym (c .before .before .before .before .before .is-byte .ensures) ∙ c .before .before .before .before .if2 .left in
+    let name = ap (isByte 87) (sym (c .before .before .before .before .before .before .field-of .ensures)) ∙ sym (c .before .before .before .is-byte2 .ensures) ∙ c .before .before .if3 .taken in
+    ap (λ x. called x (now (c .before .before .before .before .before .before .before .before .before .before .args .bytes))) (c .read-write .ensures ∙ ap writeOf (c .before .behind-field2 .ensures)) ∙ sym (line-write _ _ (c .before .before .before .before .before .before .before .if1 .left) other name)
 
 read-parse-requires : tie.Need-read-parse-requires
 read-parse-requires c κs = search needs
@@ -46,9 +60,10 @@ read-parse-requires c κs = search needs
 same-length-2 : tie.Need-same-length-2
 same-length-2 c = search needs
 
-returns-3 : tie.Need-returns-3
-returns-3 c = let name = ap (isByte 76) (sym (c .before .before .before .before .before .before .field-of .ensures)) ∙ sym (c .before .before .before .before .before .is-byte .ensures) ∙ c .before .before .before .before .if2 .left in
-    c .before .before .read-parse .ensures ∙ sym (line-parse _ _ (c .before .before .before .before .before .before .before .if1 .left) name)
+returns-4 : tie.Need-returns-4
+returns-4 c = let list = ap (isByte 76) (sym (c .before .before .before .before .before .before .before .before .field-of .ensures)) ∙ sym (c .before .before .before .before .before .before .before .is-byte .ensures) ∙ c .before .before .before .before .before .before .if2 .left in
+    let write = ap (isByte 87) (sym (c .before .before .before .before .before .before .before .before .field-of .ensures)) ∙ sym (c .before .before .before .before .before .is-byte2 .ensures) ∙ c .before .before .before .before .if3 .left in
+    c .before .before .read-parse .ensures ∙ sym (line-parse _ _ (c .before .before .before .before .before .before .before .before .before .if1 .left) list write)
 
 pub read-call-spec : {M : Type 1} → statement M
 read-call-spec =
@@ -62,6 +77,10 @@ read-call-spec =
     read-list-requires
     same-length
     returns-2
+    is-byte-requires-2
+    behind-field-requires-2
+    read-write-requires
+    returns-3
     read-parse-requires
     same-length-2
-    returns-3)
+    returns-4)

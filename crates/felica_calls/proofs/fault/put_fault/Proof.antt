@@ -110,6 +110,42 @@ slice-aggregate-put-bytes-12 c = search needs
 put-bytes-requires-12 : tie.Need-put-bytes-requires-12
 put-bytes-requires-12 c κs = search needs
 
+enum-told-12 : tie.Need-enum-told-12
+enum-told-12 c = search needs
+
+slice-aggregate-put-bytes-13 : tie.Need-slice-aggregate-put-bytes-13
+slice-aggregate-put-bytes-13 c = search needs
+
+put-bytes-requires-13 : tie.Need-put-bytes-requires-13
+put-bytes-requires-13 c κs = search needs
+
+enum-told-13 : tie.Need-enum-told-13
+enum-told-13 c = search needs
+
+slice-aggregate-put-bytes-14 : tie.Need-slice-aggregate-put-bytes-14
+slice-aggregate-put-bytes-14 c = search needs
+
+put-bytes-requires-14 : tie.Need-put-bytes-requires-14
+put-bytes-requires-14 c κs = search needs
+
+enum-told-14 : tie.Need-enum-told-14
+enum-told-14 c = search needs
+
+slice-aggregate-put-bytes-15 : tie.Need-slice-aggregate-put-bytes-15
+slice-aggregate-put-bytes-15 c = search needs
+
+put-bytes-requires-15 : tie.Need-put-bytes-requires-15
+put-bytes-requires-15 c κs = search needs
+
+enum-told-15 : tie.Need-enum-told-15
+enum-told-15 c = search needs
+
+slice-aggregate-put-bytes-16 : tie.Need-slice-aggregate-put-bytes-16
+slice-aggregate-put-bytes-16 c = search needs
+
+put-bytes-requires-16 : tie.Need-put-bytes-requires-16
+put-bytes-requires-16 c κs = search needs
+
 same-length : tie.Need-same-length
 same-length c = search needs
 
@@ -176,6 +212,30 @@ same-length-11 c = search needs
 returns-11 : tie.Need-returns-11
 returns-11 c = rw (c .before .before .before .before .before .enum-told11 .given .1) (put-then _ _ _ (c .before .before .before .before .before .before .before .before .before .put-bytes .ensures) (c .before .before .put-bytes12 .ensures))
 
+same-length-12 : tie.Need-same-length-12
+same-length-12 c = search needs
+
+returns-12 : tie.Need-returns-12
+returns-12 c = rw (c .before .before .before .before .before .enum-told12 .given .1) (put-then _ _ _ (c .before .before .before .before .before .before .before .before .before .put-bytes .ensures) (c .before .before .put-bytes13 .ensures))
+
+same-length-13 : tie.Need-same-length-13
+same-length-13 c = search needs
+
+returns-13 : tie.Need-returns-13
+returns-13 c = rw (c .before .before .before .before .before .enum-told13 .given .1) (put-then _ _ _ (c .before .before .before .before .before .before .before .before .before .put-bytes .ensures) (c .before .before .put-bytes14 .ensures))
+
+same-length-14 : tie.Need-same-length-14
+same-length-14 c = search needs
+
+returns-14 : tie.Need-returns-14
+returns-14 c = rw (c .before .before .before .before .before .enum-told14 .given .1) (put-then _ _ _ (c .before .before .before .before .before .before .before .before .before .put-bytes .ensures) (c .before .before .put-bytes15 .ensures))
+
+same-length-15 : tie.Need-same-length-15
+same-length-15 c = search needs
+
+returns-15 : tie.Need-returns-15
+returns-15 c = rw (c .before .before .before .before .before .enum-told15 .given .1) (put-then _ _ _ (c .before .before .before .before .before .before .before .before .before .put-bytes .ensures) (c .before .before .put-bytes16 .ensures))
+
 pub put-fault-spec : {M : Type 1} → statement M
 put-fault-spec =
     tie.close
@@ -215,6 +275,18 @@ put-fault-spec =
     enum-told-11
     slice-aggregate-put-bytes-12
     put-bytes-requires-12
+    enum-told-12
+    slice-aggregate-put-bytes-13
+    put-bytes-requires-13
+    enum-told-13
+    slice-aggregate-put-bytes-14
+    put-bytes-requires-14
+    enum-told-14
+    slice-aggregate-put-bytes-15
+    put-bytes-requires-15
+    enum-told-15
+    slice-aggregate-put-bytes-16
+    put-bytes-requires-16
     same-length
     returns
     same-length-2
@@ -236,4 +308,12 @@ put-fault-spec =
     same-length-10
     returns-10
     same-length-11
-    returns-11)
+    returns-11
+    same-length-12
+    returns-12
+    same-length-13
+    returns-13
+    same-length-14
+    returns-14
+    same-length-15
+    returns-15)
