@@ -85,7 +85,8 @@ pub(crate) fn byte_of(high: u8, low: u8) -> u8
     16 * value_of(high) + value_of(low)
 }
 
-fn value_of(digit: u8) -> u8
+// A digit's value; what is no digit counts as 0.
+pub fn value_of(digit: u8) -> u8
     ensures { λ r. ⌜ r ≡ valueOf (digitOf digit) ⌝ }
 {
     let value = digit_value(digit);

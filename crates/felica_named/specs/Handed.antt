@@ -1,0 +1,134 @@
+-- What the writer is handed, by the command code and the fields named.
+-- Assumes nothing.
+use Prim.Native.Nat.{ℕ, _+_}
+use Prim.Native.String.{String}
+use mathlib.Core.Bool.{Bool, true, false, not, cond}
+use mathlib.Core.List.{List, [], _∷_, _++_}
+use lib.ListN.{length, take, drop}
+use lib.Dec.{eqb}
+use Rattle.felica_format.specs.Basic.{zeros}
+use Rattle.felica_format.specs.Command.{Command}
+use Rattle.felica_command.specs.Handed.{handed}
+use Rattle.felica_command.specs.declared.fixed.Fixed.{Fixed}
+use Rattle.felica_put.specs.Put.{Buffer, buffer, put}
+use Rattle.felica_calls.specs.Bytes.{bytesOf}
+use Rattle.felica_named.specs.Names.{names, numberOf}
+use Rattle.felica_named.specs.Values.{valueAt, valueNamed, wordsIn, smallIn, bytesOver, byteIn, wordIn, allZero}
+
+-- no field
+abbrev pub nowhere : ℕ
+nowhere = length names
+
+-- Which field each fixed field of the writer is read from. 2E, 40, 82 and so on are written as 46, 64, 130.
+unfoldable pub selectorFrom : ℕ → ℕ
+selectorFrom code = cond (eqb code 40) (numberOf " type=") (cond (eqb code 64) (numberOf " operation=") nowhere)
+
+unfoldable pub numberFrom : ℕ → ℕ
+numberFrom code =
+    cond (eqb code 0) (numberOf " system=")
+    (cond (eqb code 10) (numberOf " index=")
+    (cond (eqb code 26) (numberOf " parent=")
+    (cond (eqb code 36) (numberOf " node=")
+    (cond (eqb code 46) (numberOf " property=")
+    (cond (eqb code 130) (numberOf " node=")
+    (cond (eqb code 132) (numberOf " node=")
+    nowhere))))))
+
+unfoldable pub indexFrom : ℕ → ℕ
+indexFrom code = cond (eqb code 26) (numberOf " index=") nowhere
+
+unfoldable pub optionFrom : ℕ → ℕ
+optionFrom code = cond (eqb code 0) (numberOf " request=") (cond (eqb code 32) (numberOf " encryption=") nowhere)
+
+unfoldable pub choiceFrom : ℕ → ℕ
+choiceFrom code = cond (eqb code 0) (numberOf " slots=") (cond (eqb code 32) (numberOf " packet=") nowhere)
+
+-- a challenge of 16 bytes has the number behind that of 8 bytes
+unfoldable pub challengeFrom : ℕ → ℕ
+challengeFrom code =
+    cond (eqb code 16) (numberOf " challenge=")
+    (cond (eqb code 18) (numberOf " challenge=")
+    (cond (eqb code 64) (numberOf " challenge=" + 1)
+    (cond (eqb code 66) (numberOf " challenge=" + 1)
+    (cond (eqb code 128) (numberOf " issue_id=")
+    nowhere))))
+
+unfoldable pub parameterFrom : ℕ → ℕ
+parameterFrom code = cond (eqb code 128) (numberOf " issue_parameter=") nowhere
+
+-- whether a command has the field with the number k
+unfoldable pub takes : ℕ → ℕ → Bool
+takes code k =
+    cond (eqb k (selectorFrom code)) true
+    (cond (eqb k (numberFrom code)) true
+    (cond (eqb k (indexFrom code)) true
+    (cond (eqb k (optionFrom code)) true
+    (cond (eqb k (choiceFrom code)) true
+    (cond (eqb k (challengeFrom code)) true
+    (eqb k (parameterFrom code)))))))
+
+-- whether the command lacks it, and its value is other than zero
+abbrev pub strays : ℕ → ℕ → List ℕ → Bool
+strays code k value = cond (allZero value) false (not (takes code k))
+
+-- 1 where a field from the number k on does, else 0
+unfoldable pub strayFrom : ℕ → List ℕ → ℕ → List ℕ → ℕ
+strayFrom code s k [] = 0
+strayFrom code s k (start ∷ starts) =
+    cond (strays code k (valueAt s start)) 1 (strayFrom code s (k + 1) starts)
+
+-- `system` and all behind it in the table; idm, lists, data and package are handed in as they are
+abbrev pub strayOf : ℕ → List ℕ → List ℕ → ℕ
+strayOf code s starts = strayFrom code s (numberOf " system=") (drop (numberOf " system=") starts)
+
+-- A number that the command lacks is handed as 0, or as 1 for the writer to refuse where a field was named that the command lacks.
+abbrev pub orStray : ℕ → ℕ → ℕ → ℕ
+orStray k value stray = cond (eqb k nowhere) stray value
+
+abbrev pub byteHanded : List ℕ → List ℕ → ℕ → ℕ → ℕ
+byteHanded s starts stray k = orStray k (byteIn (valueNamed s starts k)) stray
+
+abbrev pub wordHanded : List ℕ → List ℕ → ℕ → ℕ → ℕ
+wordHanded s starts stray k = orStray k (wordIn (valueNamed s starts k)) stray
+
+-- 16 bytes: of 80 the issue parameter behind the issue id
+abbrev pub challengeHanded : ℕ → List ℕ → List ℕ → List ℕ
+challengeHanded code s starts =
+    bytesOver (zeros 8 ++ bytesOver (zeros 8) (valueNamed s starts (parameterFrom code))) (valueNamed s starts (challengeFrom code))
+
+abbrev pub fixedWith : ℕ → List ℕ → List ℕ → ℕ → Fixed
+fixedWith code s starts stray =
+    record {
+      idm = bytesOver (zeros 8) (valueNamed s starts (numberOf " idm="));
+      selector = byteHanded s starts stray (selectorFrom code);
+      number = wordHanded s starts stray (numberFrom code);
+      index = wordHanded s starts stray (indexFrom code);
+      option = byteHanded s starts stray (optionFrom code);
+      choice = byteHanded s starts stray (choiceFrom code);
+      challenge = challengeHanded code s starts;
+    }
+
+unfoldable pub fixedNamed : ℕ → List ℕ → List ℕ → Fixed
+fixedNamed code s starts = fixedWith code s starts (strayOf code s starts)
+
+-- what is put to the front of a buffer of n entries
+abbrev pub frontOf : Buffer → List ℕ
+frontOf b = take (b .next) (b .bytes)
+
+abbrev pub within : ℕ → List ℕ → List ℕ
+within n list = frontOf (put (buffer (zeros n) 0) list)
+
+-- The command. No well formed value is longer than its buffer.
+unfoldable pub commandNamed : ℕ → List ℕ → List ℕ → Command
+commandNamed code s starts =
+    handed code (fixedNamed code s starts) (words " first=") (words " second=") (words " numbers=") (small " places=") (small " modes=") (bytes " data=")
+    (bytes " package=")
+  where
+    words : String → List ℕ
+    words name = within 1024 (wordsIn (valueNamed s starts (numberOf name)))
+
+    small : String → List ℕ
+    small name = within 2560 (smallIn (valueNamed s starts (numberOf name)))
+
+    bytes : String → List ℕ
+    bytes name = within 16384 (bytesOf (valueNamed s starts (numberOf name)))

@@ -1,0 +1,82 @@
+// The names of fields. The number of a name is its place in the table of names, and that of a field which is not there is the table's length.
+ghost use mathlib.Core.Path.{_≡_};
+ghost use Rattle.felica_named.specs.Names.{beginsWith, placeIn};
+
+// The length of the table.
+pub const NAMES: usize = 211;
+
+pub const IDM: usize = 0;
+
+pub const FIRST: usize = 6;
+
+pub const SECOND: usize = 14;
+
+pub const NUMBERS: usize = 23;
+
+pub const PLACES: usize = 33;
+
+pub const MODES: usize = 42;
+
+pub const DATA: usize = 50;
+
+pub const PACKAGE: usize = 57;
+
+pub const SYSTEM: usize = 67;
+
+pub const REQUEST: usize = 76;
+
+pub const SLOTS: usize = 86;
+
+pub const PARENT: usize = 94;
+
+pub const INDEX: usize = 103;
+
+pub const NODE: usize = 111;
+
+pub const PROPERTY: usize = 118;
+
+pub const TYPE: usize = 129;
+
+pub const OPERATION: usize = 136;
+
+pub const ENCRYPTION: usize = 148;
+
+pub const PACKET: usize = 161;
+
+pub const CHALLENGE: usize = 170;
+
+pub const ISSUE_ID: usize = 182;
+
+pub const ISSUE_PARAMETER: usize = 193;
+// Of a challenge of 16 bytes.
+pub const LONG_CHALLENGE: usize = 171;
+
+// Where `key` stands in the table first.
+pub(crate) fn place_in(table: &[u8], key: &[u8]) -> usize
+    ensures { λ r. ⌜ r ≡ placeIn (now (key .entry)) (now (table .entry)) ⌝ }
+{
+    let mut i = 0;
+    while i < table.len() {
+        if begins_with(&table[i..], key) {
+            return i;
+        }
+        i += 1;
+    }
+    i
+}
+
+fn begins_with(text: &[u8], key: &[u8]) -> bool
+    ensures { λ r. ⌜ r ≡ beginsWith (now (key .entry)) (now (text .entry)) ⌝ }
+{
+    let mut i = 0;
+    while i < key.len() {
+        if text.len() <= i {
+            return false;
+        }
+        if text[i] != key[i] {
+            return false;
+        }
+        i += 1;
+    }
+    true
+}
