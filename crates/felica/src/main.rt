@@ -7,17 +7,20 @@ ghost use Rattle.felica.specs.Answers.{Answered, LineAnswered};
 
 mod lists;
 mod parse;
+mod write;
 
 use felica_calls::call::Call;
 use felica_calls::call::read_call;
 use felica_calls::fault::Fault;
 use felica_calls::fault::put_fault;
+use felica_calls::write::behind_code;
 use felica_put::put_byte;
 use felica_text::find::find;
 use libc::STDIN_FILENO;
 use libc::STDOUT_FILENO;
 use lists::answer_list;
 use parse::answer_parse;
+use write::answer_write;
 
 // Bytes of the longest call.
 const MAX_CALL_BYTES: usize = 16384;
@@ -41,18 +44,19 @@ struct State {
 
 // An empty line is answered too, so that there is a line for each line.
 fn answer_call(line: &[u8], bytes: &mut [u8], out: &mut [u8], at: usize) -> usize
-    ensures { λ r. ⌜ Answered (readCall (now (line .entry)) (now (bytes .entry))) (buffer (now (out .entry)) at) (buffer (now (out .exit)) r) ⌝ }
+    ensures { λ r. ⌜ Answered (now (line .entry)) (readCall (now (line .entry)) (now (bytes .entry))) (buffer (now (out .entry)) at) (buffer (now (out .exit)) r) ⌝ }
 {
     let call = read_call(line, bytes);
     match call {
         Call::Parse(source, count) => answer_parse(source, &bytes[..count], out, at),
         Call::List(source, count, sizes) => answer_list(source, &bytes[..count], sizes, out, at),
+        Call::Write(size, code) => answer_write(size, code, behind_code(line), out, at),
         Call::Wrong(fault) => put_fault(out, at, fault),
     }
 }
 
 fn answer_line(line: &[u8], bytes: &mut [u8], out: &mut [u8], at: usize) -> usize
-    ensures { λ r. ⌜ LineAnswered (readCall (now (line .entry)) (now (bytes .entry))) (buffer (now (out .entry)) at) (buffer (now (out .exit)) r) ⌝ }
+    ensures { λ r. ⌜ LineAnswered (now (line .entry)) (readCall (now (line .entry)) (now (bytes .entry))) (buffer (now (out .entry)) at) (buffer (now (out .exit)) r) ⌝ }
 {
     let next = answer_call(line, bytes, out, at);
     put_byte(out, next, b'\n')

@@ -1,4 +1,5 @@
-// The line that answers a call: what the parser or the list reader gives, written into a lent buffer.
+// The line that answers a call: what the parser, the list reader or the writer gives, written into a lent buffer.
 pub mod answer;
 mod fields;
 pub mod lists;
+pub mod written;

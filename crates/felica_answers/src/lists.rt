@@ -53,7 +53,7 @@ fn front_words(words: &[u16], count: usize) -> &[u16]
     &words[..count]
 }
 
-fn front_bytes(bytes: &[u8], count: usize) -> &[u8]
+pub(crate) fn front_bytes(bytes: &[u8], count: usize) -> &[u8]
     ensures { λ r. ⌜ now r ≡ take count (now (bytes .entry)) ⌝ }
 {
     if bytes.len() < count {

@@ -1,4 +1,4 @@
--- The fixed fields, one by one.
+-- The fixed fields and the lists, one by one.
 -- Assumes nothing.
 use mathlib.Core.Path.{_≡_, ap, _∙_}
 use mathlib.Core.List.{List, _++_, append-nil}
@@ -7,10 +7,12 @@ use lib.ListN.{length, take, drop}
 use borrow.Rule.Slice.PartMut.{putMid}
 use Rattle.felica_format.specs.Basic.{zeros}
 use Rattle.felica_command.specs.declared.fixed.Fixed.{Fixed}
+use Rattle.felica_command.specs.Handed.{handed}
+use Rattle.felica_calls.specs.Bytes.{bytesOf}
 use Rattle.felica_named.specs.Names.{numberOf}
-use Rattle.felica_named.specs.Values.{valueNamed, bytesOver}
+use Rattle.felica_named.specs.Values.{valueNamed, wordsIn, smallIn, bytesOver}
 use Rattle.felica_named.specs.Handed.{selectorFrom, numberFrom, indexFrom, optionFrom, choiceFrom, challengeFrom, parameterFrom}
-use Rattle.felica_named.specs.Handed.{byteHanded, wordHanded, challengeHanded, fixedWith}
+use Rattle.felica_named.specs.Handed.{byteHanded, wordHanded, challengeHanded, fixedWith, fixedNamed, frontWith, commandOver}
 
 -- the last 8 of 16 zeros overwritten
 over-last : (held after value : List ℕ) → held ≡ zeros 16 → after ≡ bytesOver (take (length held - 8) (drop 8 held)) value
@@ -36,3 +38,14 @@ pub fixed-is : (code : ℕ) (s starts : List ℕ) (stray : ℕ) {idm challenge :
     (record { idm = idm; selector = selector; number = number; index = index; option = option; choice = choice; challenge = challenge })
     (fixedWith code s starts stray)
 fixed-is code s starts stray e₁ e₂ e₃ e₄ e₅ e₆ e₇ = rw (e₁, e₂, e₃, e₄, e₅, e₆, e₇)
+
+-- the lists by what was written of each
+pub command-is : (code : ℕ) (s starts first second numbers places modes blockData issuePackage : List ℕ) {fixed : Fixed} {f g n p m d i : List ℕ}
+    → fixed ≡ fixedNamed code s starts → f ≡ frontWith first (wordsIn (valueNamed s starts (numberOf " first=")))
+    → g ≡ frontWith second (wordsIn (valueNamed s starts (numberOf " second="))) → n ≡ frontWith numbers (wordsIn (valueNamed s starts (numberOf " numbers=")))
+    → p ≡ frontWith places (smallIn (valueNamed s starts (numberOf " places="))) → m ≡ frontWith modes (smallIn (valueNamed s starts (numberOf " modes=")))
+    → d ≡ frontWith blockData (bytesOf (valueNamed s starts (numberOf " data=")))
+    → i ≡ frontWith issuePackage (bytesOf (valueNamed s starts (numberOf " package=")))
+    → handed code fixed f g n p m d i ≡ commandOver code s starts first second numbers places modes blockData issuePackage
+unfolding commandOver
+command-is code s starts first second numbers places modes blockData issuePackage e₁ e₂ e₃ e₄ e₅ e₆ e₇ e₈ = rw (e₁, e₂, e₃, e₄, e₅, e₆, e₇, e₈)

@@ -1,7 +1,6 @@
 -- What the writer is handed, by the command code and the fields named.
 -- Assumes nothing.
 use Prim.Native.Nat.{ℕ, _+_}
-use Prim.Native.String.{String}
 use mathlib.Core.Bool.{Bool, true, false, not, cond}
 use mathlib.Core.List.{List, [], _∷_, _++_}
 use lib.ListN.{length, take, drop}
@@ -111,24 +110,26 @@ fixedWith code s starts stray =
 unfoldable pub fixedNamed : ℕ → List ℕ → List ℕ → Fixed
 fixedNamed code s starts = fixedWith code s starts (strayOf code s starts)
 
--- what is put to the front of a buffer of n entries
+-- what stands at the front of a buffer when a list was put there
 abbrev pub frontOf : Buffer → List ℕ
 frontOf b = take (b .next) (b .bytes)
 
-abbrev pub within : ℕ → List ℕ → List ℕ
-within n list = frontOf (put (buffer (zeros n) 0) list)
+abbrev pub frontWith : List ℕ → List ℕ → List ℕ
+frontWith held list = frontOf (put (buffer held 0) list)
 
--- The command. No well formed value is longer than its buffer.
-unfoldable pub commandNamed : ℕ → List ℕ → List ℕ → Command
+-- the command whose lists, data and package are written to these buffers
+unfoldable pub commandOver : ℕ → List ℕ → List ℕ → List ℕ → List ℕ → List ℕ → List ℕ → List ℕ → List ℕ → List ℕ → Command
+commandOver code s starts first second numbers places modes blockData issuePackage =
+    handed code (fixedNamed code s starts)
+    (frontWith first (wordsIn (valueNamed s starts (numberOf " first="))))
+    (frontWith second (wordsIn (valueNamed s starts (numberOf " second="))))
+    (frontWith numbers (wordsIn (valueNamed s starts (numberOf " numbers="))))
+    (frontWith places (smallIn (valueNamed s starts (numberOf " places="))))
+    (frontWith modes (smallIn (valueNamed s starts (numberOf " modes="))))
+    (frontWith blockData (bytesOf (valueNamed s starts (numberOf " data="))))
+    (frontWith issuePackage (bytesOf (valueNamed s starts (numberOf " package="))))
+
+-- The same with buffers that no well formed value is too long for.
+abbrev pub commandNamed : ℕ → List ℕ → List ℕ → Command
 commandNamed code s starts =
-    handed code (fixedNamed code s starts) (words " first=") (words " second=") (words " numbers=") (small " places=") (small " modes=") (bytes " data=")
-    (bytes " package=")
-  where
-    words : String → List ℕ
-    words name = within 1024 (wordsIn (valueNamed s starts (numberOf name)))
-
-    small : String → List ℕ
-    small name = within 2560 (smallIn (valueNamed s starts (numberOf name)))
-
-    bytes : String → List ℕ
-    bytes name = within 16384 (bytesOf (valueNamed s starts (numberOf name)))
+    commandOver code s starts (zeros 1024) (zeros 1024) (zeros 1024) (zeros 2560) (zeros 2560) (zeros 16384) (zeros 16384)

@@ -14,11 +14,11 @@ use Rattle.felica.proofs.answer_call.Statement.{statement}
 use Rattle.felica.proofs.answer_call.Tie as tie
 
 -- the call that was read, answered as what it is
-answered : {call found : Call} {bytes : List ℕ} {c : Called} (before after : Buffer) → call ≡ found → called call bytes ≡ c → AnswerTo found bytes before after
-    → Answered c before after
+answered : (line : List ℕ) {call found : Call} {bytes : List ℕ} {c : Called} (before after : Buffer) → call ≡ found → called call bytes ≡ c
+    → AnswerTo line found bytes before after → Answered line c before after
 unfolding Answered
-answered {bytes = bytes} before after is e answer =
-    subst (λ (c : Called). Answered c before after) (ap (λ (x : Call). called x bytes) (sym is) ∙ e) answer
+answered line {bytes = bytes} before after is e answer =
+    subst (λ (c : Called). Answered line c before after) (ap (λ (x : Call). called x bytes) (sym is) ∙ e) answer
 
 read-call-requires : tie.Need-read-call-requires
 read-call-requires c κs = search needs
@@ -50,6 +50,15 @@ answer-list-requires c κs = rw (c .before .before .before .call2 .given .1) at 
 enum-known-call-3 : tie.Need-enum-known-call-3
 enum-known-call-3 c = search needs
 
+behind-code-requires : tie.Need-behind-code-requires
+behind-code-requires c κs = search needs
+
+answer-write-requires : tie.Need-answer-write-requires
+answer-write-requires c κs = rw (c .before .before .before .call3 .given .1) at (sizes-within _ _ (c .before .before .before .before .before .before .before .read-call .ensures))
+
+enum-known-call-4 : tie.Need-enum-known-call-4
+enum-known-call-4 c = search needs
+
 put-fault-requires : tie.Need-put-fault-requires
 put-fault-requires c κs = search needs
 
@@ -60,7 +69,7 @@ same-length-2 : tie.Need-same-length-2
 same-length-2 c = search needs
 
 returns : tie.Need-returns
-returns c = answered _ _ (c .before .before .before .before .before .before .call .given .1) (c .before .before .before .before .before .before .before .before .before .before .read-call .ensures) (c .before .before .answer-parse .ensures)
+returns c = answered (c .before .before .before .before .before .before .before .before .before .before .before .before .before .before .before .args .line .now) _ _ (c .before .before .before .before .before .before .call .given .1) (c .before .before .before .before .before .before .before .before .before .before .read-call .ensures) (c .before .before .answer-parse .ensures)
 
 same-length-3 : tie.Need-same-length-3
 same-length-3 c = search needs
@@ -69,7 +78,7 @@ same-length-4 : tie.Need-same-length-4
 same-length-4 c = search needs
 
 returns-2 : tie.Need-returns-2
-returns-2 c = answered _ _ (c .before .before .before .before .before .before .call2 .given .1) (c .before .before .before .before .before .before .before .before .before .before .read-call .ensures) (c .before .before .answer-list .ensures)
+returns-2 c = answered (c .before .before .before .before .before .before .before .before .before .before .before .before .before .before .before .args .line .now) _ _ (c .before .before .before .before .before .before .call2 .given .1) (c .before .before .before .before .before .before .before .before .before .before .read-call .ensures) (c .before .before .answer-list .ensures)
 
 same-length-5 : tie.Need-same-length-5
 same-length-5 c = search needs
@@ -78,7 +87,16 @@ same-length-6 : tie.Need-same-length-6
 same-length-6 c = search needs
 
 returns-3 : tie.Need-returns-3
-returns-3 c = answered _ _ (c .before .before .before .before .before .call3 .given .1) (c .before .before .before .before .before .before .before .before .before .read-call .ensures) (c .before .before .put-fault .ensures)
+returns-3 c = answered (c .before .before .before .before .before .before .before .before .before .before .before .before .before .before .before .args .line .now) _ _ (c .before .before .before .before .before .before .call3 .given .1) (c .before .before .before .before .before .before .before .before .before .before .read-call .ensures) (rw (c .before .before .before .before .behind-code .ensures) at (c .before .before .answer-write .ensures))
+
+same-length-7 : tie.Need-same-length-7
+same-length-7 c = search needs
+
+same-length-8 : tie.Need-same-length-8
+same-length-8 c = search needs
+
+returns-4 : tie.Need-returns-4
+returns-4 c = answered (c .before .before .before .before .before .before .before .before .before .before .before .before .before .before .args .line .now) _ _ (c .before .before .before .before .before .call4 .given .1) (c .before .before .before .before .before .before .before .before .before .read-call .ensures) (c .before .before .put-fault .ensures)
 
 pub answer-call-spec : {M : Type 1} → statement M
 answer-call-spec =
@@ -94,6 +112,9 @@ answer-call-spec =
     slice-aggregate-answer-list
     answer-list-requires
     enum-known-call-3
+    behind-code-requires
+    answer-write-requires
+    enum-known-call-4
     put-fault-requires
     same-length
     same-length-2
@@ -103,4 +124,7 @@ answer-call-spec =
     returns-2
     same-length-5
     same-length-6
-    returns-3)
+    returns-3
+    same-length-7
+    same-length-8
+    returns-4)

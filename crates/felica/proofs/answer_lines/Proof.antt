@@ -70,7 +70,7 @@ loop-less c = let d = simp (length-take, length-drop) at (c .before .before .bef
 loop-again : tie.Need-loop-again Inv-loop μ-loop
 loop-again c = let d = simp (length-take, length-drop) at (c .before .before .before .before .before .before .before .before .before .before .before .if1 .left) in
     let w = c .before .before .before .before .answer-line in
-    (omega arith, line-within _ _ _ _ _ (w .ensures) (c .before .before .before .before .before .before .before .before .before .make-room .ensures), w .kept .1 .0 ∙ c .before .before .before .before .before .before .before .before .before .before .before .before .before .before .before .loop .inv .2, w .kept .1 .1 .0 ∙ c .before .before .before .before .before .before .before .before .before .before .before .before .before .before .before .loop .inv .3)
+    (omega arith, line-within _ _ _ _ _ _ (w .ensures) (c .before .before .before .before .before .before .before .before .before .make-room .ensures), w .kept .1 .0 ∙ c .before .before .before .before .before .before .before .before .before .before .before .before .before .before .before .loop .inv .2, w .kept .1 .1 .0 ∙ c .before .before .before .before .before .before .before .before .before .before .before .before .before .before .before .loop .inv .3)
 
 same-length-5 : tie.Need-same-length-5 Inv-loop μ-loop
 same-length-5 c = c .before .loop .inv .2
