@@ -7,9 +7,9 @@ use felica_text::hex::Digit;
 use felica_text::hex::digit_value;
 
 // 1024 codes or block numbers with the commas between them; 16384 bytes.
-pub const MAX_LIST_TEXT: usize = 5119;
+const MAX_LIST_TEXT: usize = 5119;
 
-pub const MAX_BYTES_TEXT: usize = 32768;
+const MAX_BYTES_TEXT: usize = 32768;
 
 pub(crate) fn longest_value(form: u8) -> usize
     ensures { λ r. ⌜ r ≡ longest form ⌝ }

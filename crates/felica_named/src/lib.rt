@@ -1,6 +1,6 @@
 // The fields of a writer's call, `name=value` each behind one space: noted by their names, then read as what the writer takes.
 pub mod fixed;
-pub mod form;
+mod form;
 pub mod lists;
 pub mod names;
 pub mod notes;
