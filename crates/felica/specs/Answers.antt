@@ -13,9 +13,9 @@ use Rattle.felica_calls.specs.Call.{Called}
 use Rattle.felica_calls.specs.declared.call.Call.{Call}
 use Rattle.felica_calls.specs.declared.call.Call.the-variants.{Parse, List as ListCall, Write, Wrong}
 use Rattle.felica_answers.specs.Answer.{lineOf}
+use Rattle.felica_writing.specs.Answer.{writeAnswer}
 use Rattle.felica.specs.Source.{readingOf, payloadIn, bodyAt}
 use Rattle.felica.specs.Lists.{listAnswer}
-use Rattle.felica.specs.Write.{writeAnswer}
 
 -- of a call to parse, the line of the one result that the definitions allow; the fields of a call to write stand in the line
 abbrev pub AnswerTo : List ℕ → Call → List ℕ → Buffer → Buffer → Type 0

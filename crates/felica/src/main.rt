@@ -7,7 +7,6 @@ ghost use Rattle.felica.specs.Answers.{Answered, LineAnswered};
 
 mod lists;
 mod parse;
-mod write;
 
 use felica_calls::call::Call;
 use felica_calls::call::read_call;
@@ -16,11 +15,11 @@ use felica_calls::fault::put_fault;
 use felica_calls::write::behind_code;
 use felica_put::put_byte;
 use felica_text::find::find;
+use felica_writing::answer_write;
 use libc::STDIN_FILENO;
 use libc::STDOUT_FILENO;
 use lists::answer_list;
 use parse::answer_parse;
-use write::answer_write;
 
 // Bytes of the longest call.
 const MAX_CALL_BYTES: usize = 16384;

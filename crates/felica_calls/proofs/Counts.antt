@@ -38,30 +38,30 @@ either P true a b p q = p
 either P false a b p q = q refl
 
 -- a length is at most that of the longest buffer
-abbrev Below : ℕ → Number → Type 0
-Below most (TheNumber n) = n ≤ most
-Below most (WrongNumber fault) = Unit
+abbrev Below : Number → Type 0
+Below (TheNumber n) = n ≤ maxLent
+Below (WrongNumber fault) = Unit
 
-number-below : (most : ℕ) (s : List ℕ) → Below most (readNumber most s)
+number-below : (s : List ℕ) → Below (readNumber maxLent s)
 unfolding readNumber
-number-below most s =
-    either (Below most) (eqb (length s) 0) _ _ tt λ a.
-    either (Below most) (not (allDecimal s)) _ _ tt λ b.
-    either (Below most) (ltb most (decimalFrom 0 s)) _ _ tt λ c.
-    ltb-false most (decimalFrom 0 s) c
+number-below s =
+    either Below (eqb (length s) 0) _ _ tt λ a.
+    either Below (not (allDecimal s)) _ _ tt λ b.
+    either Below (ltb maxLent (decimalFrom 0 s)) _ _ tt λ c.
+    ltb-false maxLent (decimalFrom 0 s) c
 
 -- so are the five lengths
 abbrev AllBelow : SizesRead → Type 0
 AllBelow (TheSizes z) = Lent z
 AllBelow (WrongSizes fault) = Unit
 
-if-below : (found : Number) (f : ℕ → SizesRead) → Below maxLent found → ((n : ℕ) → n ≤ maxLent → AllBelow (f n)) → AllBelow (ifNumber found f)
+if-below : (found : Number) (f : ℕ → SizesRead) → Below found → ((n : ℕ) → n ≤ maxLent → AllBelow (f n)) → AllBelow (ifNumber found f)
 if-below (TheNumber n) f h k = k n h
 if-below (WrongNumber fault) f h k = tt
 
 next-below : (s : List ℕ) (f : ℕ → List ℕ → SizesRead) → ((n : ℕ) (rest : List ℕ) → n ≤ maxLent → AllBelow (f n rest)) → AllBelow (nextSize s f)
 unfolding nextSize
-next-below s f k = if-below (readNumber maxLent (nextField s)) _ (number-below maxLent (nextField s)) (λ n h. k n (behindNext s) h)
+next-below s f k = if-below (readNumber maxLent (nextField s)) _ (number-below (nextField s)) (λ n h. k n (behindNext s) h)
 
 sizes-below : (s : List ℕ) → AllBelow (readSizes s)
 unfolding readSizes
@@ -99,7 +99,7 @@ last-fit s held =
 abbrev pub CallLends : Call → Type 0
 CallLends (Parse source n) = Unit
 CallLends (ListCall source n z) = Lent z
-CallLends (Write size c) = size ≤ maxRoom
+CallLends (Write size c) = Unit
 CallLends (Wrong fault) = Unit
 
 record Fits (c : Called) : Type 0 where
@@ -131,17 +131,17 @@ list-fits (TheSource source) s held =
     sized-fits source (readSizes (behindNext (behindSource source s))) (behindSource source s) held (sizes-below (behindNext (behindSource source s)))
 list-fits (WrongSource fault) s held = wrong-fits fault held
 
-write-fits : (size : Number) (found : Code) (held : List ℕ) → Below maxRoom size → Fits (called (writeWith size found) held)
-write-fits (TheNumber size) (TheCode c) held h = record { count = zero-le; lends = h }
-write-fits (TheNumber size) (WrongCode fault) held h = wrong-fits fault held
-write-fits (WrongNumber fault) found held h = wrong-fits fault held
+write-fits : (size : Number) (found : Code) (held : List ℕ) → Fits (called (writeWith size found) held)
+write-fits (TheNumber size) (TheCode c) held = record { count = zero-le; lends = tt }
+write-fits (TheNumber size) (WrongCode fault) held = wrong-fits fault held
+write-fits (WrongNumber fault) found held = wrong-fits fault held
 
 call-fits : (line held : List ℕ) → Fits (readCall line held)
 unfolding readCall
 call-fits line held =
     either Fits (eqb (length line) 0) _ _ (wrong-fits EmptyLine held) λ a.
     either Fits (isByte 76 (fieldOf line)) _ _ (list-fits (readSource (drop 1 (behindField line))) (drop 1 (behindField line)) held) λ b.
-    either Fits (isByte 87 (fieldOf line)) _ _ (write-fits (readNumber maxRoom (nextField (behindField line))) (readCommandCode (nextField (behindNext (behindField line)))) held (number-below maxRoom (nextField (behindField line)))) λ c.
+    either Fits (isByte 87 (fieldOf line)) _ _ (write-fits (readNumber maxRoom (nextField (behindField line))) (readCommandCode (nextField (behindNext (behindField line)))) held) λ c.
     parse-fits (readSource line) line held
 
 module _ (line held : List ℕ) {call : Call} {m : List ℕ} (e : called call m ≡ readCall line held) where

@@ -54,7 +54,7 @@ behind-code-requires : tie.Need-behind-code-requires
 behind-code-requires c κs = search needs
 
 answer-write-requires : tie.Need-answer-write-requires
-answer-write-requires c κs = rw (c .before .before .before .call3 .given .1) at (sizes-within _ _ (c .before .before .before .before .before .before .before .read-call .ensures))
+answer-write-requires c κs = search needs
 
 enum-known-call-4 : tie.Need-enum-known-call-4
 enum-known-call-4 c = search needs

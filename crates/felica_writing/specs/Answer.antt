@@ -1,9 +1,13 @@
 -- The answer to a call of the writer.
 -- Assumes nothing.
 use Prim.Native.Nat.{ℕ}
+use mathlib.Core.Bool.{cond}
 use mathlib.Core.List.{List}
+use lib.Dec.{ltb}
 use Rattle.felica_format.specs.Basic.{zeros}
 use Rattle.felica_calls.specs.Fault.{faultText}
+use Rattle.felica_calls.specs.Write.{maxRoom}
+use Rattle.felica_calls.specs.declared.fault.Fault.the-variants.{BufferTooLong}
 use Rattle.felica_named.specs.Notes.{Notes, fieldsNoted}
 use Rattle.felica_named.specs.Handed.{nowhere, commandNamed}
 use Rattle.felica_named.specs.declared.notes.Noted.{Noted}
@@ -20,5 +24,5 @@ answerNoted size code s n = go (n .answer)
     go (Wrong fault) = faultText fault
 
 -- s is what follows the command code
-abbrev pub writeAnswer : ℕ → ℕ → List ℕ → List ℕ
-writeAnswer size code s = answerNoted size code s (fieldsNoted s (zeros nowhere))
+unfoldable pub writeAnswer : ℕ → ℕ → List ℕ → List ℕ
+writeAnswer size code s = cond (ltb maxRoom size) (faultText BufferTooLong) (answerNoted size code s (fieldsNoted s (zeros nowhere)))

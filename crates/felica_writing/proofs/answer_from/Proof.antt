@@ -1,4 +1,4 @@
--- `felica::write::answer_from` meets its contract: the fields are read, written, and the answer is put.
+-- `felica_writing::answer_from` meets its contract: the fields are read, written, and the answer is put.
 -- Assumes nothing.
 use Prim.Native.Nat.{zero-le}
 use mathlib.Core.Path.{sym, ap, _∙_}
@@ -12,8 +12,8 @@ use Rattle.felica_named.proofs.Fields.{command-is}
 use Rattle.felica_write.specs.Writing.{writing}
 use Rattle.felica_answers.specs.Written.{writtenLine}
 use borrow.Author.Needs.{needs}
-use Rattle.felica.proofs.write.answer_from.Statement.{statement}
-use Rattle.felica.proofs.write.answer_from.Tie as tie
+use Rattle.felica_writing.proofs.answer_from.Statement.{statement}
+use Rattle.felica_writing.proofs.answer_from.Tie as tie
 
 words-named-requires : tie.Need-words-named-requires
 words-named-requires c κs = search needs

@@ -7,8 +7,9 @@ ghost use Rattle.felica_calls.specs.Write.{maxRoom};
 ghost use Rattle.felica_named.specs.Handed.{commandOver, commandNamed};
 ghost use Rattle.felica_write.specs.Writing.{writing};
 ghost use Rattle.felica_answers.specs.Written.{writtenLine};
-ghost use Rattle.felica.specs.Write.{writeAnswer};
+ghost use Rattle.felica_writing.specs.Answer.{writeAnswer};
 use felica_answers::written::put_written;
+use felica_calls::fault::Fault;
 use felica_calls::fault::put_fault;
 use felica_calls::write::MAX_ROOM;
 use felica_named::fixed::fixed_named;
@@ -34,10 +35,13 @@ const MAX_SMALL: usize = 2560;
 
 const MAX_BYTES: usize = 16384;
 
-pub(crate) fn answer_write(size: usize, code: u8, text: &[u8], out: &mut [u8], at: usize) -> usize
-    requires { ⌜ size ≤ maxRoom ⌝ }
+// The fields stand in `text`, behind the command code.
+pub fn answer_write(size: usize, code: u8, text: &[u8], out: &mut [u8], at: usize) -> usize
     ensures { λ r. ⌜ buffer (now (out .exit)) r ≡ put (buffer (now (out .entry)) at) (writeAnswer size code (now (text .entry))) ⌝ }
 {
+    if MAX_ROOM < size {
+        return put_fault(out, at, Fault::BufferTooLong);
+    }
     let mut starts = [0usize; NAMES];
     let noted = note_fields(text, &mut starts);
     match noted {

@@ -1,14 +1,14 @@
--- `felica::write::answer_named` meets its contract.
+-- `felica_writing::answer_named` meets its contract.
 -- Assumes nothing.
 use mathlib.Core.Path.{ap, _∙_}
 use Rattle.felica_put.specs.Put.{buffer, put}
 use Rattle.felica_named.specs.Handed.{commandNamed}
 use Rattle.felica_write.specs.Writing.{writing}
 use Rattle.felica_answers.specs.Written.{writtenLine}
-use Rattle.felica.proofs.Wrote.{take-zeros, zeros-taken}
+use Rattle.felica_writing.proofs.Lines.{take-zeros, zeros-taken}
 use borrow.Author.Needs.{needs}
-use Rattle.felica.proofs.write.answer_named.Statement.{statement}
-use Rattle.felica.proofs.write.answer_named.Tie as tie
+use Rattle.felica_writing.proofs.answer_named.Statement.{statement}
+use Rattle.felica_writing.proofs.answer_named.Tie as tie
 
 slice-aggregate-answer-from : tie.Need-slice-aggregate-answer-from
 slice-aggregate-answer-from c = search needs

@@ -14,7 +14,7 @@ use Rattle.felica_named.specs.declared.notes.Noted.{Noted}
 use Rattle.felica_named.specs.declared.notes.Noted.the-variants.{Whole, Wrong}
 use Rattle.felica_write.specs.Writing.{writing}
 use Rattle.felica_answers.specs.Written.{writtenLine}
-use Rattle.felica.specs.Write.{answerNoted}
+use Rattle.felica_writing.specs.Answer.{answerNoted}
 
 pub take-zeros : (n m : ℕ) → n ≤ m → take n (zeros m) ≡ zeros n
 take-zeros zero m h = refl

@@ -1,0 +1,2 @@
+-- The line that answers a call of the writer.
+pub mod Answer
