@@ -1,4 +1,3 @@
--- What the answers of the steps say (Answers, Steps), and what one entry of a part is (Entries).
+-- What the answers of the steps say.
 pub mod Answers
 pub mod Steps
-pub mod Entries

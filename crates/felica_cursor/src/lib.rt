@@ -2,4 +2,3 @@
 pub mod answers;
 pub mod cursor;
 pub mod endings;
-pub mod entries;

@@ -18,42 +18,42 @@ use Rattle.felica_named.specs.Values.{valueAt, valueNamed, wordsIn, smal
 abbrev pub nowhere : ℕ
 nowhere = length names
 
--- Which field each fixed field of the writer is read from. 2E, 40, 82 and so on are written as 46, 64, 130.
+-- Which field each fixed field of the writer is read from.
 unfoldable pub selectorFrom : ℕ → ℕ
-selectorFrom code = cond (eqb code 40) (numberOf " type=") (cond (eqb code 64) (numberOf " operation=") nowhere)
+selectorFrom code = cond (eqb code 0x28) (numberOf " type=") (cond (eqb code 0x40) (numberOf " operation=") nowhere)
 
 unfoldable pub numberFrom : ℕ → ℕ
 numberFrom code =
-    cond (eqb code 0) (numberOf " system=")
-    (cond (eqb code 10) (numberOf " index=")
-    (cond (eqb code 26) (numberOf " parent=")
-    (cond (eqb code 36) (numberOf " node=")
-    (cond (eqb code 46) (numberOf " property=")
-    (cond (eqb code 130) (numberOf " node=")
-    (cond (eqb code 132) (numberOf " node=")
+    cond (eqb code 0x00) (numberOf " system=")
+    (cond (eqb code 0x0A) (numberOf " index=")
+    (cond (eqb code 0x1A) (numberOf " parent=")
+    (cond (eqb code 0x24) (numberOf " node=")
+    (cond (eqb code 0x2E) (numberOf " property=")
+    (cond (eqb code 0x82) (numberOf " node=")
+    (cond (eqb code 0x84) (numberOf " node=")
     nowhere))))))
 
 unfoldable pub indexFrom : ℕ → ℕ
-indexFrom code = cond (eqb code 26) (numberOf " index=") nowhere
+indexFrom code = cond (eqb code 0x1A) (numberOf " index=") nowhere
 
 unfoldable pub optionFrom : ℕ → ℕ
-optionFrom code = cond (eqb code 0) (numberOf " request=") (cond (eqb code 32) (numberOf " encryption=") nowhere)
+optionFrom code = cond (eqb code 0x00) (numberOf " request=") (cond (eqb code 0x20) (numberOf " encryption=") nowhere)
 
 unfoldable pub choiceFrom : ℕ → ℕ
-choiceFrom code = cond (eqb code 0) (numberOf " slots=") (cond (eqb code 32) (numberOf " packet=") nowhere)
+choiceFrom code = cond (eqb code 0x00) (numberOf " slots=") (cond (eqb code 0x20) (numberOf " packet=") nowhere)
 
 -- a challenge of 16 bytes has the number behind that of 8 bytes
 unfoldable pub challengeFrom : ℕ → ℕ
 challengeFrom code =
-    cond (eqb code 16) (numberOf " challenge=")
-    (cond (eqb code 18) (numberOf " challenge=")
-    (cond (eqb code 64) (numberOf " challenge=" + 1)
-    (cond (eqb code 66) (numberOf " challenge=" + 1)
-    (cond (eqb code 128) (numberOf " issue_id=")
+    cond (eqb code 0x10) (numberOf " challenge=")
+    (cond (eqb code 0x12) (numberOf " challenge=")
+    (cond (eqb code 0x40) (numberOf " challenge=" + 1)
+    (cond (eqb code 0x42) (numberOf " challenge=" + 1)
+    (cond (eqb code 0x80) (numberOf " issue_id=")
     nowhere))))
 
 unfoldable pub parameterFrom : ℕ → ℕ
-parameterFrom code = cond (eqb code 128) (numberOf " issue_parameter=") nowhere
+parameterFrom code = cond (eqb code 0x80) (numberOf " issue_parameter=") nowhere
 
 -- whether a command has the field with the number k
 unfoldable pub takes : ℕ → ℕ → Bool
@@ -129,7 +129,7 @@ commandOver code s starts first second numbers places modes blockData issuePacka
     (frontWith blockData (bytesOf (valueNamed s starts (numberOf " data="))))
     (frontWith issuePackage (bytesOf (valueNamed s starts (numberOf " package="))))
 
--- The same with buffers that no well formed value is too long for.
+-- The same with buffers of the lengths that the program lends: 5,119 characters hold 1,024 words or 2,560 numbers, 32,768 digits 16,384 bytes.
 abbrev pub commandNamed : ℕ → List ℕ → List ℕ → Command
 commandNamed code s starts =
     commandOver code s starts (zeros 1024) (zeros 1024) (zeros 1024) (zeros 2560) (zeros 2560) (zeros 16384) (zeros 16384)

@@ -1,4 +1,5 @@
-// The names of fields. The number of a name is its place in the table of names, and that of a field which is not there is the table's length.
+// The names of fields. They stand in one text, since there is no table of slices, and the number of a name is its place there; that of a field which is
+// not there is the length of the text.
 ghost use mathlib.Core.Path.{_≡_};
 ghost use Rattle.felica_named.specs.Names.{beginsWith, placeIn};
 
@@ -48,6 +49,7 @@ pub const CHALLENGE: usize = 170;
 pub const ISSUE_ID: usize = 182;
 
 pub const ISSUE_PARAMETER: usize = 193;
+
 // Of a challenge of 16 bytes.
 pub const LONG_CHALLENGE: usize = 171;
 

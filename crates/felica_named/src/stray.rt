@@ -20,13 +20,14 @@ use crate::names::SYSTEM;
 use crate::names::TYPE;
 use crate::values::all_zero;
 use crate::values::value_at;
+use felica_format::constants;
 
 pub(crate) fn selector_from(code: u8) -> usize
     ensures { λ r. ⌜ r ≡ selectorFrom code ⌝ }
 {
     match code {
-        0x28 => TYPE,
-        0x40 => OPERATION,
+        constants::GET_NODE_PROPERTY_COMMAND_CODE => TYPE,
+        constants::AUTHENTICATION1_V2_COMMAND_CODE => OPERATION,
         _ => NAMES,
     }
 }
@@ -35,13 +36,13 @@ pub(crate) fn number_from(code: u8) -> usize
     ensures { λ r. ⌜ r ≡ numberFrom code ⌝ }
 {
     match code {
-        0x00 => SYSTEM,
-        0x0A => INDEX,
-        0x1A => PARENT,
-        0x24 => NODE,
-        0x2E => PROPERTY,
-        0x82 => NODE,
-        0x84 => NODE,
+        constants::POLLING_COMMAND_CODE => SYSTEM,
+        constants::SEARCH_SERVICE_CODE_COMMAND_CODE => INDEX,
+        constants::REQUEST_CODE_LIST_COMMAND_CODE => PARENT,
+        constants::GET_AREA_INFORMATION_COMMAND_CODE => NODE,
+        constants::GET_CONTAINER_PROPERTY_COMMAND_CODE => PROPERTY,
+        constants::REGISTER_AREA_COMMAND_CODE => NODE,
+        constants::REGISTER_SERVICE_COMMAND_CODE => NODE,
         _ => NAMES,
     }
 }
@@ -50,7 +51,7 @@ pub(crate) fn index_from(code: u8) -> usize
     ensures { λ r. ⌜ r ≡ indexFrom code ⌝ }
 {
     match code {
-        0x1A => INDEX,
+        constants::REQUEST_CODE_LIST_COMMAND_CODE => INDEX,
         _ => NAMES,
     }
 }
@@ -59,8 +60,8 @@ pub(crate) fn option_from(code: u8) -> usize
     ensures { λ r. ⌜ r ≡ optionFrom code ⌝ }
 {
     match code {
-        0x00 => REQUEST,
-        0x20 => ENCRYPTION,
+        constants::POLLING_COMMAND_CODE => REQUEST,
+        constants::SET_PARAMETER_COMMAND_CODE => ENCRYPTION,
         _ => NAMES,
     }
 }
@@ -69,8 +70,8 @@ pub(crate) fn choice_from(code: u8) -> usize
     ensures { λ r. ⌜ r ≡ choiceFrom code ⌝ }
 {
     match code {
-        0x00 => SLOTS,
-        0x20 => PACKET,
+        constants::POLLING_COMMAND_CODE => SLOTS,
+        constants::SET_PARAMETER_COMMAND_CODE => PACKET,
         _ => NAMES,
     }
 }
@@ -79,11 +80,11 @@ pub(crate) fn challenge_from(code: u8) -> usize
     ensures { λ r. ⌜ r ≡ challengeFrom code ⌝ }
 {
     match code {
-        0x10 => CHALLENGE,
-        0x12 => CHALLENGE,
-        0x40 => LONG_CHALLENGE,
-        0x42 => LONG_CHALLENGE,
-        0x80 => ISSUE_ID,
+        constants::AUTHENTICATION1_COMMAND_CODE => CHALLENGE,
+        constants::AUTHENTICATION2_COMMAND_CODE => CHALLENGE,
+        constants::AUTHENTICATION1_V2_COMMAND_CODE => LONG_CHALLENGE,
+        constants::AUTHENTICATION2_V2_COMMAND_CODE => LONG_CHALLENGE,
+        constants::REGISTER_ISSUE_ID_COMMAND_CODE => ISSUE_ID,
         _ => NAMES,
     }
 }
@@ -92,7 +93,7 @@ pub(crate) fn parameter_from(code: u8) -> usize
     ensures { λ r. ⌜ r ≡ parameterFrom code ⌝ }
 {
     match code {
-        0x80 => ISSUE_PARAMETER,
+        constants::REGISTER_ISSUE_ID_COMMAND_CODE => ISSUE_PARAMETER,
         _ => NAMES,
     }
 }

@@ -13,8 +13,8 @@ use Rattle.felica_format.specs.Read.{wordsOf, readElement, readEach}
 use Rattle.felica_format.proofs.Steps.{bind-taken, taken-value}
 use Rattle.felica_command.specs.Meaning.{valueOr}
 use Rattle.felica_command.specs.declared.command.Part.{Part}
-use Rattle.felica_cursor.specs.Entries.{codeEntry, valueOf, elementBehind, elementEntry, CodeOfList, ElementOfList}
+use Rattle.felica_entries.specs.Entries.{codeEntry, valueOf, elementBehind, elementEntry, CodeOfList, ElementOfList}
 use Rattle.felica_cursor.proofs.Laws.{word-drop}
 
 -- where there is no entry, and where there is
 pub no-code : (s : List ℕ) (p : Part) (i : ℕ) → p .count ≤ i → codeEntry s p i ≡ none

@@ -1,13 +1,13 @@
 // One entry of a part, in its wrapper. A part may be any two numbers: an entry that does not stand inside the payload is none.
 ghost use mathlib.Core.Path.{_≡_};
-ghost use Rattle.felica_cursor.specs.Entries.{codeEntry, elementEntry, wordFound, serviceCodeFound, nodeCodeFound, blockFound};
-use crate::answers::ElementTaken;
-use crate::cursor::Cursor;
-use crate::cursor::word_of;
+ghost use Rattle.felica_entries.specs.Entries.{codeEntry, elementEntry, wordFound, serviceCodeFound, nodeCodeFound, blockFound};
 use felica_command::command::Part;
 use felica_command::types::BlockListElement;
 use felica_command::types::NodeCode;
 use felica_command::types::ServiceCode;
+use felica_cursor::answers::ElementTaken;
+use felica_cursor::cursor::Cursor;
+use felica_cursor::cursor::word_of;
 
 pub enum ServiceCodeAt {
     Code(ServiceCode),

@@ -5,9 +5,9 @@ use mathlib.Core.Path.{sym}
 use native.Mathlib.Numerals.{add-one}
 use native.Mathlib.Omega.{arith}
 use denote.Ref.{now}
-use Rattle.felica_cursor.proofs.OneEntry.{no-code, no-room, one-code}
-use Rattle.felica_cursor.proofs.entries.word_entry.Statement.{statement}
-use Rattle.felica_cursor.proofs.entries.word_entry.Tie as tie
+use Rattle.felica_entries.proofs.OneEntry.{no-code, no-room, one-code}
+use Rattle.felica_entries.proofs.word_entry.Statement.{statement}
+use Rattle.felica_entries.proofs.word_entry.Tie as tie
 
 returns : tie.Need-returns
 returns c = let a = c .before .before .before .args in sym (no-code (now (a .payload)) (a .list) (a .i) (c .if1 .taken))

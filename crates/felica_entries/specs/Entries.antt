@@ -13,14 +13,14 @@ use Rattle.felica_format.specs.Read.{readElement, readEach}
 use Rattle.felica_command.specs.Types.{elementIs}
 use Rattle.felica_command.specs.Meaning.{codesAt, elementsAt}
 use Rattle.felica_command.specs.declared.command.Part.{Part}
-use Rattle.felica_cursor.specs.declared.entries.WordEntry.{WordEntry}
-use Rattle.felica_cursor.specs.declared.entries.WordEntry.the-variants.{Word, None as NoWord}
-use Rattle.felica_cursor.specs.declared.entries.ServiceCodeAt.{ServiceCodeAt}
-use Rattle.felica_cursor.specs.declared.entries.ServiceCodeAt.the-variants.{Code as ServiceCodeIs, None as NoServiceCode}
-use Rattle.felica_cursor.specs.declared.entries.NodeCodeAt.{NodeCodeAt}
-use Rattle.felica_cursor.specs.declared.entries.NodeCodeAt.the-variants.{Code as NodeCodeIs, None as NoNodeCode}
-use Rattle.felica_cursor.specs.declared.entries.BlockAt.{BlockAt}
-use Rattle.felica_cursor.specs.declared.entries.BlockAt.the-variants.{Element as ElementIs, None as NoElement}
+use Rattle.felica_entries.specs.declared.WordEntry.{WordEntry}
+use Rattle.felica_entries.specs.declared.WordEntry.the-variants.{Word, None as NoWord}
+use Rattle.felica_entries.specs.declared.ServiceCodeAt.{ServiceCodeAt}
+use Rattle.felica_entries.specs.declared.ServiceCodeAt.the-variants.{Code as ServiceCodeIs, None as NoServiceCode}
+use Rattle.felica_entries.specs.declared.NodeCodeAt.{NodeCodeAt}
+use Rattle.felica_entries.specs.declared.NodeCodeAt.the-variants.{Code as NodeCodeIs, None as NoNodeCode}
+use Rattle.felica_entries.specs.declared.BlockAt.{BlockAt}
+use Rattle.felica_entries.specs.declared.BlockAt.the-variants.{Element as ElementIs, None as NoElement}
 
 -- none where the part has no such entry, or where its two bytes do not stand in the payload
 unfoldable pub codeEntry : List ℕ → Part → ℕ → Option ℕ

@@ -7,11 +7,11 @@ use native.Mathlib.Omega.{arith}
 use denote.Ref.{now}
 use lib.ListN.{drop}
 use Rattle.felica_command.specs.Types.{elementIs}
-use Rattle.felica_cursor.specs.Entries.{valueOf, elementBehind}
+use Rattle.felica_entries.specs.Entries.{valueOf, elementBehind}
 use Rattle.felica_cursor.specs.Steps.{elementTaken}
-use Rattle.felica_cursor.proofs.OneEntry.{no-element, one-element, behind-none, behind-more, behind-refused}
-use Rattle.felica_cursor.proofs.entries.block_at.Statement.{statement}
-use Rattle.felica_cursor.proofs.entries.block_at.Tie as tie
+use Rattle.felica_entries.proofs.OneEntry.{no-element, one-element, behind-none, behind-more, behind-refused}
+use Rattle.felica_entries.proofs.block_at.Statement.{statement}
+use Rattle.felica_entries.proofs.block_at.Tie as tie
 
 abbrev Inv-loop : tie.InvT-loop
 Inv-loop payload i at₀ left₀ at left = elementBehind left₀ (drop at₀ payload) ≡ elementBehind left (drop at payload)

@@ -1,0 +1,2 @@
+-- What one entry of a part is.
+pub mod Entries
