@@ -25,7 +25,7 @@ use parse::answer_parse;
 const MAX_CALL_BYTES: usize = 16384;
 
 // Room for the longest answer and its line feed: a package of that many bytes in digits, and the fields before it. Blocks and codes
-// come to less, and so do the five lists.
+// come to less, and so do the five lists and what the writer writes, 16,384 bytes behind their count.
 const ANSWER_ROOM: usize = 33024;
 
 // How much of the output waits to be written, and whether a write has failed.

@@ -13,7 +13,7 @@ use Rattle.felica_format.specs.Command.{Command, Element, elementsOf, en
 use Rattle.felica_format.specs.Layout.{Layout, boundsOf}
 use Rattle.felica_format.specs.Read.{sizeOf, readEnding, readPackage, ifCodes, readBody}
 use Rattle.felica_format.specs.Write.{Forms, idmBytes, selectorBytes, codesBytes, eachBytes, elementsBytes, dataBytes, endingBytes, packageBytes, bodyBytes}
-use Rattle.felica_format.specs.Writable.{idmOk, selectorOk, codesOk, oneLength, elementsOk, dataOk, rangesOf, endFieldsOk, packageOk, bodyOk}
+use Rattle.felica_format.specs.Writable.{idmOk, selectorOk, codesOk, sameLength, oneLength, elementsOk, dataOk, rangesOf, endFieldsOk, packageOk, bodyOk}
 use Rattle.felica_format.proofs.Tests.{and-left, and-right, and-both}
 use Rattle.felica_format.proofs.Bytes.{allBelow-++, bytes-right}
 use Rattle.felica_format.proofs.Steps.{taken-value, taken-rest, bind-taken}
@@ -116,7 +116,7 @@ command-of c ok =
 
 one-length : (es : List Element) (c : Command)
     → c .numbers ≡ map (λ e. e .number) es → c .places ≡ map (λ e. e .place) es → c .modes ≡ map (λ e. e .mode) es → oneLength c ≡ true
-unfolding oneLength
+unfolding sameLength
 one-length es c ns ps ms =
     rw (ns, ps, ms, length-map es (λ e. e .number), length-map es (λ e. e .place), length-map es (λ e. e .mode))
     (and-both (eq-eqb (length es) (length es) refl) (eq-eqb (length es) (length es) refl))

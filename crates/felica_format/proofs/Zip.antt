@@ -7,7 +7,7 @@ use mathlib.Core.Bool.{true}
 use mathlib.Core.List.{List, [], _∷_, map}
 use lib.ListN.{length}
 use Rattle.felica_format.specs.Command.{Command, Element, zipElements, elementsOf}
-use Rattle.felica_format.specs.Writable.{oneLength}
+use Rattle.felica_format.specs.Writable.{sameLength, oneLength}
 use Rattle.felica_format.proofs.Tests.{tests, and-left, and-right}
 
 pub zip-lists : (es : List Element) → zipElements (map (λ e. e .number) es) (map (λ e. e .place) es) (map (λ e. e .mode) es) ≡ es
@@ -41,7 +41,7 @@ pub record Zipped (c : Command) : Type 0 where
   pub modes : map (λ e. e .mode) (elementsOf c) ≡ c .modes
 
 pub zipped : (c : Command) → oneLength c ≡ true → Zipped c
-unfolding oneLength
+unfolding sameLength
 zipped c ok =
     let p = and-left _ _ ok in
     let m = and-right _ _ ok in

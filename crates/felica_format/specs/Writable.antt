@@ -44,8 +44,11 @@ codesOk noCodes ns = isEmpty ns
 codesOk (least to greatest) ns = leb least (length ns) and leb (length ns) greatest and allBelow 65536 ns
 
 -- the three lists of a block list are of one length
-unfoldable pub oneLength : Command → Bool
-oneLength c = eqb (length (c .places)) (length (c .numbers)) and eqb (length (c .modes)) (length (c .numbers))
+unfoldable pub sameLength : List ℕ → List ℕ → List ℕ → Bool
+sameLength numbers places modes = eqb (length places) (length numbers) and eqb (length modes) (length numbers)
+
+abbrev pub oneLength : Command → Bool
+oneLength c = sameLength (c .numbers) (c .places) (c .modes)
 
 abbrev pub elementOk : Element → Bool
 elementOk e = ltb (e .number) 65536 and ltb (e .place) 16 and ltb (e .mode) 8

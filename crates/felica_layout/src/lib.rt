@@ -67,6 +67,7 @@ pub struct Row {
     pub layout: Layout,
 }
 
+// The bounds of service codes are those of node codes.
 pub fn row_of(code: u8) -> Row
     ensures { λ r. ⌜ rowMeant r ≡ rowOf code ⌝ }
 {

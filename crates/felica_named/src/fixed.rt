@@ -6,7 +6,7 @@ ghost use Rattle.felica_format.specs.Basic.{zeros};
 ghost use Rattle.felica_named.specs.Values.{valueNamed, bytesOver};
 ghost use Rattle.felica_named.specs.Handed.{byteHanded, wordHanded, challengeHanded, fixedNamed};
 use crate::names::IDM;
-use crate::names::NAMES;
+use crate::names::NOWHERE;
 use crate::stray::challenge_from;
 use crate::stray::choice_from;
 use crate::stray::index_from;
@@ -44,7 +44,7 @@ pub fn fixed_named(code: u8, text: &[u8], starts: &[usize]) -> Fixed
 fn byte_handed(text: &[u8], starts: &[usize], mark: u8, name: usize) -> u8
     ensures { λ r. ⌜ r ≡ byteHanded (now (text .entry)) (now (starts .entry)) mark name ⌝ }
 {
-    if name == NAMES {
+    if name == NOWHERE {
         return mark;
     }
     let mut byte = [0u8; 1];
@@ -55,7 +55,7 @@ fn byte_handed(text: &[u8], starts: &[usize], mark: u8, name: usize) -> u8
 fn word_handed(text: &[u8], starts: &[usize], mark: u8, name: usize) -> u16
     ensures { λ r. ⌜ r ≡ wordHanded (now (text .entry)) (now (starts .entry)) mark name ⌝ }
 {
-    if name == NAMES {
+    if name == NOWHERE {
         return mark as u16;
     }
     let mut bytes = [0u8; 2];

@@ -1,10 +1,12 @@
-// The names of fields. They stand in one text, since there is no table of slices, and the number of a name is its place there; that of a field which is
-// not there is the length of the text.
+// The names of fields. They stand in one text (`note_fields`), since there is no table of slices, and the number of a name is its place there.
 ghost use mathlib.Core.Path.{_≡_};
 ghost use Rattle.felica_named.specs.Names.{beginsWith, placeIn};
 
-// The length of the table.
+// The length of that text.
 pub const NAMES: usize = 211;
+
+// The number of no field.
+pub const NOWHERE: usize = NAMES;
 
 pub const IDM: usize = 0;
 

@@ -8,8 +8,8 @@ use crate::names::INDEX;
 use crate::names::ISSUE_ID;
 use crate::names::ISSUE_PARAMETER;
 use crate::names::LONG_CHALLENGE;
-use crate::names::NAMES;
 use crate::names::NODE;
+use crate::names::NOWHERE;
 use crate::names::OPERATION;
 use crate::names::PACKET;
 use crate::names::PARENT;
@@ -28,7 +28,7 @@ pub(crate) fn selector_from(code: u8) -> usize
     match code {
         constants::GET_NODE_PROPERTY_COMMAND_CODE => TYPE,
         constants::AUTHENTICATION1_V2_COMMAND_CODE => OPERATION,
-        _ => NAMES,
+        _ => NOWHERE,
     }
 }
 
@@ -43,7 +43,7 @@ pub(crate) fn number_from(code: u8) -> usize
         constants::GET_CONTAINER_PROPERTY_COMMAND_CODE => PROPERTY,
         constants::REGISTER_AREA_COMMAND_CODE => NODE,
         constants::REGISTER_SERVICE_COMMAND_CODE => NODE,
-        _ => NAMES,
+        _ => NOWHERE,
     }
 }
 
@@ -52,7 +52,7 @@ pub(crate) fn index_from(code: u8) -> usize
 {
     match code {
         constants::REQUEST_CODE_LIST_COMMAND_CODE => INDEX,
-        _ => NAMES,
+        _ => NOWHERE,
     }
 }
 
@@ -62,7 +62,7 @@ pub(crate) fn option_from(code: u8) -> usize
     match code {
         constants::POLLING_COMMAND_CODE => REQUEST,
         constants::SET_PARAMETER_COMMAND_CODE => ENCRYPTION,
-        _ => NAMES,
+        _ => NOWHERE,
     }
 }
 
@@ -72,7 +72,7 @@ pub(crate) fn choice_from(code: u8) -> usize
     match code {
         constants::POLLING_COMMAND_CODE => SLOTS,
         constants::SET_PARAMETER_COMMAND_CODE => PACKET,
-        _ => NAMES,
+        _ => NOWHERE,
     }
 }
 
@@ -85,7 +85,7 @@ pub(crate) fn challenge_from(code: u8) -> usize
         constants::AUTHENTICATION1_V2_COMMAND_CODE => LONG_CHALLENGE,
         constants::AUTHENTICATION2_V2_COMMAND_CODE => LONG_CHALLENGE,
         constants::REGISTER_ISSUE_ID_COMMAND_CODE => ISSUE_ID,
-        _ => NAMES,
+        _ => NOWHERE,
     }
 }
 
@@ -94,7 +94,7 @@ pub(crate) fn parameter_from(code: u8) -> usize
 {
     match code {
         constants::REGISTER_ISSUE_ID_COMMAND_CODE => ISSUE_PARAMETER,
-        _ => NAMES,
+        _ => NOWHERE,
     }
 }
 

@@ -1,4 +1,4 @@
--- A lent buffer that text is put into. Where it is full the rest of the text is left out.
+-- A lent buffer that bytes are put into, or other numbers. Where it is full the rest is left out.
 -- Assumes nothing.
 use Prim.Native.Nat.{ℕ, _+_}
 use mathlib.Core.Bool.{cond}
@@ -17,7 +17,7 @@ buffer bytes next = record { bytes = bytes; next = next }
 abbrev pub putByte : Buffer → ℕ → Buffer
 putByte b v = cond (ltb (b .next) (length (b .bytes))) (buffer (set (b .bytes) (b .next) v) (b .next + 1)) b
 
--- the buffer with a text put into it
+-- the buffer with a list put into it
 unfoldable pub put : Buffer → List ℕ → Buffer
 put b [] = b
 put b (v ∷ vs) = put (putByte b v) vs

@@ -13,9 +13,8 @@ use native.Mathlib.Numerals.{add-one}
 use Rattle.felica_format.specs.Basic.{_and_, allBelow, Bytes, isOneOf, zeros}
 use Rattle.felica_format.specs.Command.{Command, zipElements, elementsOf, endFieldsOf}
 use Rattle.felica_format.specs.Layout.{Layout}
-use Rattle.felica_format.specs.Writable.{sameList, isEmpty, areBytes, idmOk, selectorOk, codesOk, oneLength, eachOk, elementsOk, dataOk}
+use Rattle.felica_format.specs.Writable.{sameList, isEmpty, areBytes, idmOk, selectorOk, codesOk, sameLength, eachOk, elementsOk, dataOk}
 use Rattle.felica_format.specs.Writable.{rangesOf, endFieldsOk, packageOk, bodyOk}
-use Rattle.felica_writable.specs.Tests.{sameLength}
 use Rattle.felica_format.proofs.Tests.{and-left, and-right, and-both, and-assoc}
 
 -- the entry at a place decides
@@ -181,5 +180,5 @@ pub tests : (l : Layout) (c : Command)
     and dataOk (l .blockData) (length (c .numbers)) (c .blockData)
     and endFieldsOk (rangesOf (l .ending)) (endFieldsOf c)
     and packageOk (l .behind) (c .issuePackage)) ≡ bodyOk l c
-unfolding bodyOk oneLength sameLength
+unfolding bodyOk
 tests l c = rw (zip-length (c .numbers) (c .places) (c .modes)) (simp and-assoc)

@@ -18,7 +18,7 @@ use lists::data_ok;
 use lists::elements_ok;
 use lists::package_ok;
 
-pub fn is_writable(
+pub fn body_ok(
     layout: Layout,
     fixed: Fixed,
     first: &[u16],

@@ -15,7 +15,7 @@ use Rattle.felica_format.specs.Layout.{Selector, noSelector, typeByte, anyByte,
 use Rattle.felica_format.specs.Layout.{polling, parameter, Behind, nothing, ignoredBytes, aPackage, Layout, boundsOf}
 use Rattle.felica_format.specs.Read.{sizeOf}
 use Rattle.felica_format.specs.Write.{idmBytes, selectorBytes, wordsBytes, codesBytes, elementsBytes, dataBytes, endingBytes, packageBytes, bodyBytes}
-use Rattle.felica_format.specs.Writable.{idmOk, codesOk, oneLength, eachOk, elementsOk, dataOk, Ranges, rangesOf, endFieldsOk}
+use Rattle.felica_format.specs.Writable.{idmOk, codesOk, sameLength, eachOk, elementsOk, dataOk, Ranges, rangesOf, endFieldsOk}
 use Rattle.felica_format.specs.Writable.{packageOk, bodyOk}
 use Rattle.felica_format.proofs.Tests.{and-left, and-right, and-both, isEmpty-true}
 use Rattle.felica_format.proofs.Body.{Narrow, fits-of}
@@ -68,7 +68,7 @@ unfolding endFieldsOk
 whole-challenge r f ok = eqb-true (length (f .challenge)) 16 (and-left _ _ (and-left _ _ (and-right _ _ (and-right _ _ (and-right _ _ (and-right _ _ ok))))))
 
 pub ready : (l : Layout) (c : Command) → Narrow l → bodyOk l c ≡ true → Ready l c
-unfolding oneLength
+unfolding sameLength
 ready l c n ok =
     let h = fits-of l c ok in
     let p = eqb-true (length (c .places)) (length (c .numbers)) (and-left _ _ (h .lists)) in

@@ -3,6 +3,7 @@
 use Prim.Native.Nat.{ℕ, _≤_, _<_}
 use native.Mathlib.Omega.{arith}
 use mathlib.Core.Path.{_≡_, refl, sym, ap, _∙_, subst}
+use mathlib.Core.Logic.{_⊎_, inl, inr, _↔_}
 use mathlib.Core.Bool.{Bool, true, false}
 use mathlib.Core.List.{List, [], _++_}
 use mathlib.Core.Option.{Option, none, some}
@@ -15,7 +16,7 @@ use Rattle.felica_format.specs.Command.{Command}
 use Rattle.felica_format.specs.Layout.{layoutOf, layoutIn, has, plainRows}
 use Rattle.felica_format.specs.Read.{gives, readFrame, readSecure}
 use Rattle.felica_format.specs.Write.{frameOf, secureOf}
-use Rattle.felica_format.specs.Writable.{idmOk, selectorOk, codesOk, oneLength, bodyOk, writable, written}
+use Rattle.felica_format.specs.Writable.{idmOk, selectorOk, codesOk, sameLength, bodyOk, writable, written}
 use Rattle.felica_format.specs.Demand3.{FrameGives, PayloadGives, HasFrame, HasPayload}
 use Rattle.felica_format.proofs.Demand3.{frames-are-choices, payloads-are-choices, short-frame-accepted, short-payload-accepted, other-frames-longer}
 use Rattle.felica_format.proofs.Demand3.{other-payloads-longer, short-frame-written, short-payload-written, unwritable-exactly, frame-read-back}
@@ -26,6 +27,7 @@ use Rattle.felica_write.specs.declared.Written.the-variants.{Length, Ref
 use Rattle.felica_write.specs.Writing.{wrote, refused, meaning, refusal, outcome, stored, store, writing}
 use Rattle.felica_write.specs.Rules.{WriterAccount, OneWriterAccount, RefusedUntouched}
 use Rattle.felica_write.specs.Rules.{TwentyOneExactly, TwentyTwoExactly, BehindKept, WrittenFrameRead, WrittenPayloadRead, ShortestFrame}
+use Rattle.felica_write.specs.Rules.{TwoRefusals, FrameTwentyOne, PayloadTwentyOne, UnwritableUnread}
 use Rattle.felica_write.specs.Rules.{ShortestPayload, FramesReadAreChoices, PayloadsReadAreChoices, TwoFramesRead, TwoPayloadsRead, NumberAlone}
 
 -- a result is settled by what it says
@@ -81,6 +83,18 @@ refused-untouched c b r a n code e said = go (written c) (ap (λ o. o .buffer) e
     go none held answer = held
     go (some s) held answer = fit s (ltb (length b) (length s)) held answer
 
+pub two-refusals : TwoRefusals
+unfolding writing
+two-refusals c b r a n code e said = go (written c) (sym said ∙ ap (λ o. o .answer) e)
+  where
+    fit : (s : List ℕ) (small : Bool) → refused n code ≡ stored small (c .code) s b .answer → (code ≡ some (c .code)) × ((n ≡ 21) ⊎ (n ≡ 22))
+    fit s true answer = (cc, inl cc)
+    fit s false answer = absurd (wrote-not (sym answer))
+
+    go : (w : Option (List ℕ)) → refused n code ≡ store (c .code) w b .answer → (code ≡ some (c .code)) × ((n ≡ 21) ⊎ (n ≡ 22))
+    go none answer = (cc, inr cc)
+    go (some s) answer = fit s (ltb (length b) (length s)) answer
+
 not-both : {j k : Option ℕ} → refused 21 j ≡ refused 22 k → ⊥
 not-both e = let z : _≡_ {A = ℕ} 21 22 = cc in omega arith
 
@@ -103,6 +117,22 @@ twenty-one-exactly c b r a e = (λ said. there (written c) refl (sym said ∙ ap
         ap (λ o. o .answer) e ∙ ap (λ x. store (c .code) x b .answer) w
         ∙ ap (λ (t : Bool). stored t (c .code) s b .answer) (lt-ltb (length b) (length s) small)
 
+-- of the bytes that the definition writes
+twenty-one-of : (c : Command) (s b : List ℕ) (r : Written) (a : List ℕ) → written c ≡ some s → WriterAccount c b r a
+    → (meaning r ≡ refused 21 (some (c .code))) ↔ (length b < length s)
+twenty-one-of c s b r a w e =
+    let exactly = twenty-one-exactly c b r a e in
+    (λ said. same (exactly .0 said), λ small. exactly .1 (s, w, small))
+  where
+    same : (t : List ℕ) × (written c ≡ some t) × (length b < length t) → length b < length s
+    same (t, v, small) = let is : t ≡ s = cc in subst (λ (u : List ℕ). length b < length u) is small
+
+pub frame-twenty-one : FrameTwentyOne
+frame-twenty-one c b r a has e = twenty-one-of c (frameOf [] c) b r a (short-frame-written c has) e
+
+pub payload-twenty-one : PayloadTwentyOne
+payload-twenty-one c b r a has e = twenty-one-of c (secureOf [] c) b r a (short-payload-written c has) e
+
 pub twenty-two-exactly : TwentyTwoExactly
 unfolding writing
 twenty-two-exactly c b r a e = (
@@ -117,6 +147,13 @@ twenty-two-exactly c b r a e = (
     there : (w : Option (List ℕ)) → written c ≡ w → refused 22 (some (c .code)) ≡ store (c .code) w b .answer → written c ≡ none
     there none q said = q
     there (some s) q said = absurd (short s (ltb (length b) (length s)) said)
+
+pub unwritable-unread : UnwritableUnread
+unwritable-unread c b r a e said s p small =
+    let neither = twenty-two-exactly c b r a e .0 said in (
+      λ parsed given. neither .0 (s, (small, sym (parsed .0) ∙ given)),
+      λ code parsed given. neither .1 (code, s, (small, sym (parsed .0) ∙ given)),
+    )
 
 pub behind-kept : BehindKept
 behind-kept c b n a e =
@@ -183,5 +220,5 @@ two-payloads-read c s t p q small small′ parsed given parsed′ given′ =
     two-payloads c s t (small, sym (parsed .0) ∙ given) (small′, sym (parsed′ .0) ∙ given′)
 
 pub number-alone : NumberAlone
-unfolding writing written writable bodyOk idmOk selectorOk codesOk oneLength layoutOf layoutIn has plainRows _and_
+unfolding writing written writable bodyOk idmOk selectorOk codesOk sameLength layoutOf layoutIn has plainRows _and_
 number-alone n b r a e = meaning-one r (refusal 22 0x04) (ap (λ o. o .answer) e)

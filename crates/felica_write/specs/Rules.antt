@@ -1,9 +1,9 @@
--- What follows from the contracts of the writer and the parser, in the words of document 01 and of demands 2 and 3, as statements. Each is proved under its
+-- What follows from the contracts of the writer and the parser, in the words of document 01 and of the three demands, as statements. Each is proved under its
 -- name in proofs/Rules.antt.
 -- Assumes nothing.
 use Prim.Native.Nat.{ℕ, _≤_, _<_}
 use mathlib.Core.Path.{_≡_}
-use mathlib.Core.Logic.{_≢_, _↔_}
+use mathlib.Core.Logic.{_⊎_, _≢_, _↔_}
 use mathlib.Core.List.{List, [], _∷_, _++_}
 use mathlib.Core.Option.{Option, some}
 use lib.ListN.{length, take, drop}
@@ -48,7 +48,23 @@ OneWriterAccount = (c : Command) (b : List ℕ) (r t : Written) (a e : List ℕ)
 abbrev pub RefusedUntouched : Type 0
 RefusedUntouched = (c : Command) (b : List ℕ) (r : Written) (a : List ℕ) (n : ℕ) (code : Option ℕ) → WriterAccount c b r a → meaning r ≡ refused n code → a ≡ b
 
--- "21 comes exactly when the shortest form is longer than the buffer", and the command is writable
+-- A refusal is 21 or 22, and both carry the code handed in.
+abbrev pub TwoRefusals : Type 0
+TwoRefusals =
+    (c : Command) (b : List ℕ) (r : Written) (a : List ℕ) (n : ℕ) (code : Option ℕ) → WriterAccount c b r a → meaning r ≡ refused n code
+    → (code ≡ some (c .code)) × ((n ≡ 21) ⊎ (n ≡ 22))
+
+-- "21 comes exactly when the shortest form is longer than the buffer": of a command that a frame gives, that a payload gives, and of any
+abbrev pub FrameTwentyOne : Type 0
+FrameTwentyOne =
+    (c : Command) (b : List ℕ) (r : Written) (a : List ℕ) → HasFrame c → WriterAccount c b r a
+    → (meaning r ≡ refused 21 (some (c .code))) ↔ (length b < length (frameOf [] c))
+
+abbrev pub PayloadTwentyOne : Type 0
+PayloadTwentyOne =
+    (c : Command) (b : List ℕ) (r : Written) (a : List ℕ) → HasPayload c → WriterAccount c b r a
+    → (meaning r ≡ refused 21 (some (c .code))) ↔ (length b < length (secureOf [] c))
+
 abbrev pub TwentyOneExactly : Type 0
 TwentyOneExactly =
     (c : Command) (b : List ℕ) (r : Written) (a : List ℕ) → WriterAccount c b r a
@@ -60,6 +76,12 @@ abbrev pub TwentyTwoExactly : Type 0
 TwentyTwoExactly =
     (c : Command) (b : List ℕ) (r : Written) (a : List ℕ) → WriterAccount c b r a
     → (meaning r ≡ refused 22 (some (c .code))) ↔ ((¬ HasFrame c) × (¬ HasPayload c))
+
+-- Whatever the parser reads after a 22, it is not what the writer was handed.
+abbrev pub UnwritableUnread : Type 0
+UnwritableUnread =
+    (c : Command) (b : List ℕ) (r : Written) (a : List ℕ) → WriterAccount c b r a → meaning r ≡ refused 22 (some (c .code))
+    → (s : List ℕ) (p : Parsed) → Bytes s → (FrameParsed s p → ¬ FrameIs s p c) × ((code : ℕ) → PayloadParsed code s p → ¬ PayloadIs s p c)
 
 -- "bytes behind keep their values"
 abbrev pub BehindKept : Type 0

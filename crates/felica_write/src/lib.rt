@@ -12,7 +12,7 @@ use felica_command::command::Refusal;
 use felica_command::fixed::Fixed;
 use felica_format::error;
 use felica_layout::row_of;
-use felica_writable::is_writable;
+use felica_writable::body_ok;
 use head::Room;
 use head::put_head;
 use head::room_for;
@@ -25,7 +25,7 @@ pub enum Written {
     Refused(Refusal),
 }
 
-// `Fixed` says which fields a code has. A list that it lacks has to be empty.
+// `Fixed` says which fields a code has. A list that it lacks has to be empty and a fixed field zero, else it is 22.
 pub fn write(
     code: u8,
     fixed: Fixed,
@@ -43,7 +43,7 @@ pub fn write(
     let row = row_of(code);
     let class = row.class;
     let layout = row.layout;
-    if !is_writable(
+    if !body_ok(
         layout,
         fixed,
         first,

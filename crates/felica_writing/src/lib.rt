@@ -39,6 +39,7 @@ const MAX_BYTES: usize = 16384;
 pub fn answer_write(size: usize, code: u8, text: &[u8], out: &mut [u8], at: usize) -> usize
     ensures { λ r. ⌜ buffer (now (out .exit)) r ≡ put (buffer (now (out .entry)) at) (writeAnswer size code (now (text .entry))) ⌝ }
 {
+    // No call that was read has such a size; but this function asks nothing of its caller.
     if MAX_ROOM < size {
         return put_fault(out, at, Fault::BufferTooLong);
     }

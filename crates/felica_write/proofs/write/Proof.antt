@@ -18,8 +18,8 @@ use Rattle.felica_write.proofs.write.Tie as tie
 row-of-requires : tie.Need-row-of-requires
 row-of-requires c κs = search needs
 
-is-writable-requires : tie.Need-is-writable-requires
-is-writable-requires c κs = search needs
+body-ok-requires : tie.Need-body-ok-requires
+body-ok-requires c κs = search needs
 
 refused-requires : tie.Need-refused-requires
 refused-requires c κs = search needs
@@ -30,14 +30,14 @@ returns c =
     let h = handed (a .code) (a .fixed) (now (a .first)) (now (a .second)) (now (a .numbers)) (now (a .places)) (now (a .modes)) (now (a .«data»)) (now (a .«package»)) in
     let out = now (a .out) in
     let row = c .before .before .before .before .row-of in
-    ap (λ r. outcome (meaning r) out) (c .refused .ensures) ∙ no-body h (row .result .class) (layoutMeant (row .result .layout)) (row .ensures) out (sym (c .before .before .is-writable .ensures (a .code)) ∙ not-true _ (c .before .if1 .taken))
+    ap (λ r. outcome (meaning r) out) (c .refused .ensures) ∙ no-body h (row .result .class) (layoutMeant (row .result .layout)) (row .ensures) out (sym (c .before .before .body-ok .ensures (a .code)) ∙ not-true _ (c .before .if1 .taken))
 
 body-size-requires : tie.Need-body-size-requires
 body-size-requires c κs =
     let a = c .before .before .before .before .before .before .before .before .before .before .before .before .args in
     let h = handed (a .code) (a .fixed) (now (a .first)) (now (a .second)) (now (a .numbers)) (now (a .places)) (now (a .modes)) (now (a .«data»)) (now (a .«package»)) in
     let row = c .before .before .before .row-of in
-    let ok = sym (c .before .is-writable .ensures (a .code)) ∙ not-false _ (c .if1 .left) in
+    let ok = sym (c .before .body-ok .ensures (a .code)) ∙ not-false _ (c .if1 .left) in
     few _ h (ready _ h (narrow h (row .result .class) (layoutMeant (row .result .layout)) (row .ensures)) ok)
 
 room-for-requires : tie.Need-room-for-requires
@@ -55,7 +55,7 @@ returns-2 c =
     let h = handed (a .code) (a .fixed) (now (a .first)) (now (a .second)) (now (a .numbers)) (now (a .places)) (now (a .modes)) (now (a .«data»)) (now (a .«package»)) in
     let out = now (a .out) in
     let row = c .before .before .before .before .before .before .before .before .before .row-of in
-    let ok = sym (c .before .before .before .before .before .before .before .is-writable .ensures (a .code)) ∙ not-false _ (c .before .before .before .before .before .before .if1 .left) in
+    let ok = sym (c .before .before .before .before .before .before .before .body-ok .ensures (a .code)) ∙ not-false _ (c .before .before .before .before .before .before .if1 .left) in
     ap (λ r. outcome (meaning r) out) (c .refused2 .ensures) ∙ no-room h (row .result .class) (layoutMeant (row .result .layout)) (row .ensures) ok _ (c .before .before .before .before .before .body-size .ensures .0) out _ (sym (c .before .before .before .before .room-for .ensures) ∙ c .before .before .room .given .1)
 
 enum-told : tie.Need-enum-told
@@ -69,7 +69,7 @@ put-body-requires c κs =
     let a = c .before .before .before .before .before .before .before .before .before .before .before .before .before .before .before .before .before .before .before .before .before .args in
     let h : ℕ → Command = λ code. handed code (a .fixed) (now (a .first)) (now (a .second)) (now (a .numbers)) (now (a .places)) (now (a .modes)) (now (a .«data»)) (now (a .«package»)) in
     let row = c .before .before .before .before .before .before .before .before .before .before .before .before .row-of in
-    ready _ (h 0) (narrow (h (a .code)) (row .result .class) (layoutMeant (row .result .layout)) (row .ensures)) (sym (c .before .before .before .before .before .before .before .before .before .before .is-writable .ensures 0) ∙ not-false _ (c .before .before .before .before .before .before .before .before .before .if1 .left))
+    ready _ (h 0) (narrow (h (a .code)) (row .result .class) (layoutMeant (row .result .layout)) (row .ensures)) (sym (c .before .before .before .before .before .before .before .before .before .before .body-ok .ensures 0) ∙ not-false _ (c .before .before .before .before .before .before .before .before .before .if1 .left))
 
 same-length : tie.Need-same-length
 same-length c = search needs
@@ -80,7 +80,7 @@ returns-3 c =
     let h = handed (a .code) (a .fixed) (now (a .first)) (now (a .second)) (now (a .numbers)) (now (a .places)) (now (a .modes)) (now (a .«data»)) (now (a .«package»)) in
     let out = now (a .out) in
     let row = c .before .before .before .before .before .before .before .before .before .before .before .before .before .before .before .row-of in
-    let ok = sym (c .before .before .before .before .before .before .before .before .before .before .before .before .before .is-writable .ensures (a .code)) ∙ not-false _ (c .before .before .before .before .before .before .before .before .before .before .before .before .if1 .left) in
+    let ok = sym (c .before .before .before .before .before .before .before .before .before .before .before .before .before .body-ok .ensures (a .code)) ∙ not-false _ (c .before .before .before .before .before .before .before .before .before .before .before .before .if1 .left) in
     all-stored h (row .result .class) (layoutMeant (row .result .layout)) (row .ensures) ok _ (c .before .before .before .before .before .before .before .before .before .before .before .body-size .ensures .0) out (sym (c .before .before .before .before .before .before .before .before .before .before .room-for .ensures) ∙ c .before .before .before .before .before .before .before .before .enum-told .given .1) _ _
     (put-then _ _ _ (c .before .before .before .before .before .before .put-head .ensures) (c .before .before .put-body .ensures (a .code)))
 
@@ -89,7 +89,7 @@ write-spec =
     tie.close
     (tie.spec
     row-of-requires
-    is-writable-requires
+    body-ok-requires
     refused-requires
     returns
     body-size-requires

@@ -1,4 +1,4 @@
--- `felica_writable::is_writable` meets its contract: one test after the other, and the first that fails ends it.
+-- `felica_writable::body_ok` meets its contract: one test after the other, and the first that fails ends it.
 -- Assumes nothing.
 use denote.Ref.{now}
 use mathlib.Core.Path.{refl, sym, _∙_}
@@ -7,8 +7,8 @@ use Rattle.felica_command.specs.Handed.{handed}
 use Rattle.felica_layout.specs.Layout.{layoutMeant}
 use Rattle.felica_writable.proofs.Laws.{all-small, stop, pass, tests}
 use borrow.Author.Needs.{needs}
-use Rattle.felica_writable.proofs.is_writable.Statement.{statement}
-use Rattle.felica_writable.proofs.is_writable.Tie as tie
+use Rattle.felica_writable.proofs.body_ok.Statement.{statement}
+use Rattle.felica_writable.proofs.body_ok.Tie as tie
 
 idm-ok-requires : tie.Need-idm-ok-requires
 idm-ok-requires c κs = search needs
@@ -110,8 +110,8 @@ returns-8 c = λ code.
     ∙ pass _ _ (sym (c .before .before .before .before .before .before .before .before .before .before .before .before .before .before .idm-ok .ensures) ∙ not-false _ (c .before .before .before .before .before .before .before .before .before .before .before .before .before .if1 .left))
     ∙ tests (layoutMeant (a .layout)) (handed code (a .fixed) (now (a .first)) (now (a .second)) (now (a .numbers)) (now (a .places)) (now (a .modes)) (now (a .«data»)) (now (a .«package»)))
 
-pub is-writable-spec : {M : Type 1} → statement M
-is-writable-spec =
+pub body-ok-spec : {M : Type 1} → statement M
+body-ok-spec =
     tie.close
     (tie.spec
     idm-ok-requires

@@ -1,2 +1,0 @@
--- What the tests say.
-pub mod Tests
