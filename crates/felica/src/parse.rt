@@ -8,10 +8,10 @@ ghost use Rattle.felica.specs.Source.{readingOf, payloadIn, bodyAt};
 use felica_answers::answer::put_answer;
 use felica_calls::source::Source;
 use felica_command::command::Parsed;
-use felica_parse::parse_frame;
+use felica_frame::parse_frame;
+use felica_frame::payload_of;
 use felica_parse::parse_payload;
 use felica_parse::parse_secure_payload;
-use felica_parse::payload_of;
 
 // The line of the one result that the definitions allow.
 pub(crate) fn answer_parse(source: Source, bytes: &[u8], out: &mut [u8], at: usize) -> usize

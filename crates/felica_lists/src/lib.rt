@@ -14,10 +14,10 @@ mod fill;
 use felica_command::command::Answer;
 use felica_command::command::Parsed;
 use felica_format::error;
-use felica_parse::parse_frame;
+use felica_frame::parse_frame;
+use felica_frame::payload_of;
 use felica_parse::parse_payload;
 use felica_parse::parse_secure_payload;
-use felica_parse::payload_of;
 use fill::fill;
 
 // A frame.

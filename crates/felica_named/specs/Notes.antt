@@ -7,7 +7,6 @@ use mathlib.Core.List.{List}
 use lib.ListN.{length, getD, set, take, drop}
 use lib.Dec.{ltb, leb, eqb}
 use Rattle.felica_text.specs.Text.{before}
-use Rattle.felica_calls.specs.declared.fault.Fault.{Fault}
 use Rattle.felica_calls.specs.declared.fault.Fault.the-variants.{UnknownField, FieldTwice, MalformedValue, ValueTooLong}
 use Rattle.felica_named.specs.Names.{names, placeIn}
 use Rattle.felica_named.specs.Form.{wellFormed, longest}

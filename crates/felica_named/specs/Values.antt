@@ -4,10 +4,10 @@ use Prim.Native.Nat.{ℕ, _+_, _*_, _%_}
 use Prim.Native.Char.{code}
 use mathlib.Core.Bool.{Bool, true, cond}
 use mathlib.Core.List.{List, [], _∷_}
-use lib.ListN.{length, getD, take, drop}
+use lib.ListN.{length, getD, drop}
 use lib.Dec.{eqb}
 use Rattle.felica_format.specs.Basic.{_and_, zeros, wordOf}
-use Rattle.felica_put.specs.Put.{Buffer, buffer, put}
+use Rattle.felica_put.specs.Put.{buffer, put}
 use Rattle.felica_text.specs.Text.{digitOf}
 use Rattle.felica_calls.specs.Field.{fieldOf, isByte}
 use Rattle.felica_calls.specs.Bytes.{valueOf, bytesOf}

@@ -1,7 +1,5 @@
 // The fixed fields that the writer takes, from the fields named.
 ghost use mathlib.Core.Path.{_≡_};
-ghost use mathlib.Core.List.{_++_};
-ghost use lib.ListN.{length};
 ghost use Rattle.felica_format.specs.Basic.{zeros};
 ghost use Rattle.felica_named.specs.Values.{valueNamed, bytesOver};
 ghost use Rattle.felica_named.specs.Handed.{byteHanded, wordHanded, challengeHanded, fixedNamed};

@@ -1,6 +1,6 @@
 -- The entries: a payload by its code, a frame by its length byte, a secure code with its payload.
 -- Assumes nothing.
-use Prim.Native.Nat.{ℕ, suc}
+use Prim.Native.Nat.{ℕ}
 use native.Mathlib.Omega.{arith}
 use mathlib.Core.Path.{_≡_, refl, sym, ap, _∙_, subst}
 use mathlib.Core.Logic.{_⊎_, inl, inr, ⊎-elim}
@@ -8,11 +8,11 @@ use mathlib.Core.Bool.{Bool, true, false, cond}
 use mathlib.Core.List.{List, [], _∷_}
 use mathlib.Core.Option.{Option, none, some}
 use lib.ListN.{length, getD, drop}
-use borrow.Author.Tests.{eq-eqb, ne-eqb}
+use borrow.Author.Tests.{ne-eqb}
 use Rattle.felica_format.specs.declared.classes.Class.{Class}
 use Rattle.felica_format.specs.declared.classes.Class.the-variants.{Plain, Secure, Unknown}
 use Rattle.felica_format.specs.Layout.{classOf, has, plainRows, secureRows}
-use Rattle.felica_format.specs.Read.{Answer as Reading, refused, readPayload, readFrame, readSecure, readPlainAs, readSecureAs}
+use Rattle.felica_format.specs.Read.{Answer as Reading, refused, readPayload, readSecure, readPlainAs, readSecureAs}
 use Rattle.felica_command.specs.Meaning.{meaning, Canonical, refusal}
 use Rattle.felica_command.specs.Places.{placesOf, readPlaces, Account, Inside}
 use Rattle.felica_command.proofs.Inside.{none-inside, payload-inside, secure-inside}
@@ -58,21 +58,6 @@ pub plain-settled : (s : List ℕ) (code : ℕ) (r : Parsed) → (length s ≡ 0
     → Settled s 1 (readPayload s) r
 plain-settled s code r some-bytes is plain h =
     payload-settled s code r some-bytes is (subst (λ (k : Class). Account s 1 (readPlainAs k code (drop 1 s)) r) (sym plain) h)
-
-pub frame-empty : (s : List ℕ) → length s ≡ 0 → readFrame s ≡ refused 1 none
-unfolding readFrame
-frame-empty [] h = refl
-frame-empty (x ∷ xs) h = absurd (omega arith)
-
-pub frame-length : (s : List ℕ) → (length s ≡ 0 → ⊥) → (getD s 0 0 ≡ length s → ⊥) → readFrame s ≡ refused 2 none
-unfolding readFrame
-frame-length [] h n = absurd (h refl)
-frame-length (x ∷ xs) h n = rw (ne-eqb x (suc (length xs)) n)
-
-pub frame-payload : (s : List ℕ) → (length s ≡ 0 → ⊥) → getD s 0 0 ≡ length s → readFrame s ≡ readPayload (drop 1 s)
-unfolding readFrame
-frame-payload [] h n = absurd (h refl)
-frame-payload (x ∷ xs) h n = rw (eq-eqb x (suc (length xs)) n)
 
 -- the class of the codes that share a layout
 pub code-list-plain : (code : ℕ) → CodeListCode code → classOf code ≡ Plain

@@ -7,8 +7,8 @@ use mathlib.Core.List.{List, [], _∷_}
 use Prim.Native.Nat.{ℕ, _-_}
 use lib.ListN.{length, drop, length-drop}
 use lib.Seq.{take-all}
-use Rattle.felica_parse.proofs.payload_of.Statement.{statement}
-use Rattle.felica_parse.proofs.payload_of.Tie as tie
+use Rattle.felica_frame.proofs.payload_of.Statement.{statement}
+use Rattle.felica_frame.proofs.payload_of.Tie as tie
 
 empty : (s : List ℕ) → length s ≡ 0 → s ≡ drop 1 s
 empty [] h = refl

@@ -10,9 +10,10 @@ use denote.Ref.{now}
 use lib.ListN.{length, take, drop, length-drop}
 use lib.Seq.{take-all}
 use Rattle.felica_format.specs.Read.{Answer, readPayload, readFrame}
-use Rattle.felica_parse.proofs.Entry.{refusal-settled, Settled, frame-empty, frame-length, frame-payload}
-use Rattle.felica_parse.proofs.parse_frame.Statement.{statement}
-use Rattle.felica_parse.proofs.parse_frame.Tie as tie
+use Rattle.felica_parse.proofs.Entry.{refusal-settled, Settled}
+use Rattle.felica_frame.proofs.Frame.{frame-empty, frame-length, frame-payload}
+use Rattle.felica_frame.proofs.parse_frame.Statement.{statement}
+use Rattle.felica_frame.proofs.parse_frame.Tie as tie
 
 refused-without-code-requires : tie.Need-refused-without-code-requires
 refused-without-code-requires c κs = search needs
