@@ -40,7 +40,7 @@ FrameIs s p c = parser.meaning (drop 1 s) p ≡ gives c
 abbrev pub PayloadIs : List ℕ → Parsed → Command → Type 0
 PayloadIs s p c = parser.meaning s p ≡ gives c
 
--- It leaves nothing open: no two results meet it, and no two contents of the buffer.
+-- The writer's contract leaves nothing open: no two results meet it, and no two contents of the buffer.
 abbrev pub OneWriterAccount : Type 0
 OneWriterAccount = (c : Command) (b : List ℕ) (r t : Written) (a e : List ℕ) → WriterAccount c b r a → WriterAccount c b t e → (r ≡ t) × (a ≡ e)
 

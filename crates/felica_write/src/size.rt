@@ -14,7 +14,7 @@ use felica_layout::Ending;
 use felica_layout::Layout;
 use felica_layout::Selector;
 
-// All but the package.
+// All but the package: 5,893 bytes at most, so that sums with it are safe.
 pub(crate) fn body_size(
     layout: Layout,
     first: usize,
