@@ -11,7 +11,7 @@ use felica_command::command::Parsed;
 use felica_frame::parse_frame;
 use felica_frame::payload_of;
 use felica_parse::parse_payload;
-use felica_parse::parse_secure_payload;
+use felica_secure::parse_secure_payload;
 
 // The line of the one result that the definitions allow.
 pub(crate) fn answer_parse(source: Source, bytes: &[u8], out: &mut [u8], at: usize) -> usize

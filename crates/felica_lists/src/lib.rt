@@ -17,7 +17,7 @@ use felica_format::error;
 use felica_frame::parse_frame;
 use felica_frame::payload_of;
 use felica_parse::parse_payload;
-use felica_parse::parse_secure_payload;
+use felica_secure::parse_secure_payload;
 use fill::fill;
 
 // A frame.

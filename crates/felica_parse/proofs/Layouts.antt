@@ -5,8 +5,8 @@ use mathlib.Core.Path.{_≡_, refl}
 use mathlib.Core.Bool.{true, false}
 use mathlib.Core.Logic.{⊎-elim}
 use Rattle.felica_format.specs.Layout.{noSelector, typeByte, anyByte, noCodes, _to_, bytes, word, words, reserved, polling, parameter, bare}
-use Rattle.felica_format.specs.Layout.{nothing, ignoredBytes, aPackage, layout, plainRows, secureRows, has, layoutIn, layoutOf, boundsAt}
-use Rattle.felica_parse.specs.Bodies.{CodeListCode, IdmAloneCode, WordCode, ReservedCode, ReadCode, WriteCode, RegisterCode}
+use Rattle.felica_format.specs.Layout.{nothing, layout, plainRows, secureRows, has, layoutIn, layoutOf, boundsAt}
+use Rattle.felica_parse.specs.Bodies.{CodeListCode, IdmAloneCode, WordCode, ReservedCode}
 
 pub layout-00 : layoutOf 0x00 ≡ layout false noSelector noCodes noCodes false false polling nothing
 unfolding layoutOf layoutIn has plainRows secureRows boundsAt
@@ -71,23 +71,3 @@ layout-42 = refl
 pub layout-70 : layoutOf 0x70 ≡ layout false noSelector noCodes noCodes false false reserved nothing
 unfolding layoutOf layoutIn has plainRows secureRows boundsAt
 layout-70 = refl
-
-pub read-layout : (code : ℕ) → ReadCode code → layoutOf code ≡ layout false noSelector noCodes noCodes true false bare ignoredBytes
-unfolding layoutOf layoutIn has plainRows secureRows boundsAt
-read-layout code = (⊎-elim (λ e. rw e) (λ e. rw e))
-
-pub write-layout : (code : ℕ) → WriteCode code → layoutOf code ≡ layout false noSelector noCodes noCodes true true bare ignoredBytes
-unfolding layoutOf layoutIn has plainRows secureRows boundsAt
-write-layout code = (⊎-elim (λ e. rw e) (λ e. rw e))
-
-pub layout-80 : layoutOf 0x80 ≡ layout false noSelector noCodes noCodes false false (bytes 16) aPackage
-unfolding layoutOf layoutIn has plainRows secureRows boundsAt
-layout-80 = refl
-
-pub register-layout : (code : ℕ) → RegisterCode code → layoutOf code ≡ layout false noSelector noCodes noCodes false false word aPackage
-unfolding layoutOf layoutIn has plainRows secureRows boundsAt
-register-layout code = (⊎-elim (λ e. rw e) (λ e. rw e))
-
-pub layout-8E : layoutOf 0x8E ≡ layout false noSelector noCodes noCodes false false bare nothing
-unfolding layoutOf layoutIn has plainRows secureRows boundsAt
-layout-8E = refl

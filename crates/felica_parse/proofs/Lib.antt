@@ -1,4 +1,2 @@
-pub mod Walk
-pub mod Spots
 pub mod Layouts
 pub mod Entry

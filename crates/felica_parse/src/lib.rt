@@ -1,17 +1,16 @@
-// The port of command/parse.rs: a payload, and a secure code with its payload. A frame is felica_frame's.
+// The port of command/parse.rs: a payload. Frames are felica_frame's, secure codes felica_secure's.
 ghost use mathlib.Core.Path.{_≡_};
 ghost use mathlib.Core.List.{List};
 ghost use Prim.Native.Nat.{ℕ};
 ghost use lib.ListN.{drop};
 ghost use Rattle.felica_format.specs.Layout.{classOf};
-ghost use Rattle.felica_format.specs.Read.{readPayload, readSecure, readPlainAs};
+ghost use Rattle.felica_format.specs.Read.{readPayload, readPlainAs};
 ghost use Rattle.felica_command.specs.Meaning.{meaning, Canonical};
 ghost use Rattle.felica_command.specs.Places.{placesOf, readPlaces, Inside, Account};
 ghost use Rattle.felica_parse.specs.Bodies.{NotPlain};
 
 mod kinds;
 mod plain;
-mod secure;
 
 use felica_command::command::Parsed;
 use felica_format::classes::Class;
@@ -34,11 +33,6 @@ use plain::parse_read_without_encryption;
 use plain::parse_request_code_list;
 use plain::parse_set_parameter;
 use plain::parse_write_without_encryption;
-use secure::parse_change_system_block;
-use secure::parse_read;
-use secure::parse_register;
-use secure::parse_register_issue_id;
-use secure::parse_write;
 
 // A payload: the code byte and the body of its command.
 pub fn parse_payload(payload: &[u8]) -> Parsed
@@ -92,26 +86,5 @@ fn refuse_code(command_code: u8) -> Parsed
         Class::Unknown => Parsed::refused(error::UNKNOWN_CODE, command_code),
         // The caller has taken every plain code.
         Class::Plain => Parsed::refused(error::UNKNOWN_CODE, command_code),
-    }
-}
-
-// The decrypted payload of a secure code. A plain code is unknown here.
-pub fn parse_secure_payload(command_code: u8, payload: &[u8]) -> Parsed
-    ensures { λ r. ⌜ (meaning (now (payload .entry)) r ≡ readSecure «command_code» (now (payload .entry))) × (placesOf r ≡ readPlaces 0 (now (payload .entry)) (readSecure «command_code» (now (payload .entry)))) × Canonical r × Inside (now (payload .entry)) (placesOf r) ⌝ }
-{
-    match command_code {
-        constants::READ_COMMAND_CODE | constants::READ_V2_COMMAND_CODE => parse_read(
-            payload,
-            command_code,
-        ),
-        constants::WRITE_COMMAND_CODE | constants::WRITE_V2_COMMAND_CODE => parse_write(
-            payload,
-            command_code,
-        ),
-        constants::REGISTER_ISSUE_ID_COMMAND_CODE => parse_register_issue_id(payload),
-        constants::REGISTER_AREA_COMMAND_CODE | constants::REGISTER_SERVICE_COMMAND_CODE =>
-            parse_register(payload, command_code),
-        constants::CHANGE_SYSTEM_BLOCK_COMMAND_CODE => parse_change_system_block(payload),
-        _ => Parsed::refused(error::UNKNOWN_CODE, command_code),
     }
 }

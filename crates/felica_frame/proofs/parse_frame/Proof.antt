@@ -10,7 +10,7 @@ use denote.Ref.{now}
 use lib.ListN.{length, take, drop, length-drop}
 use lib.Seq.{take-all}
 use Rattle.felica_format.specs.Read.{Answer, readPayload, readFrame}
-use Rattle.felica_parse.proofs.Entry.{refusal-settled, Settled}
+use Rattle.felica_command.proofs.Settled.{refusal-settled, Settled}
 use Rattle.felica_frame.proofs.Frame.{frame-empty, frame-length, frame-payload}
 use Rattle.felica_frame.proofs.parse_frame.Statement.{statement}
 use Rattle.felica_frame.proofs.parse_frame.Tie as tie

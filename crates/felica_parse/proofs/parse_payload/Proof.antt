@@ -7,7 +7,8 @@ use denote.Ref.{now}
 use lib.ListN.{getD}
 use Rattle.felica_format.specs.Layout.{classOf, has, plainRows}
 use Rattle.felica_format.specs.Read.{readPayload}
-use Rattle.felica_parse.proofs.Entry.{refusal-settled, payload-empty, payload-settled, plain-settled, not-plain, code-list-plain, idm-alone-plain, word-plain, reserved-plain}
+use Rattle.felica_command.proofs.Settled.{refusal-settled}
+use Rattle.felica_parse.proofs.Entry.{payload-empty, payload-settled, plain-settled, not-plain, code-list-plain, idm-alone-plain, word-plain, reserved-plain}
 use Rattle.felica_parse.proofs.parse_payload.Statement.{statement}
 use Rattle.felica_parse.proofs.parse_payload.Tie as tie
 

@@ -6,7 +6,7 @@ use mathlib.Core.Option.{some}
 use lib.ListN.{drop}
 use Rattle.felica_format.specs.declared.classes.Class.{Class}
 use Rattle.felica_format.specs.Read.{readPlainAs}
-use Rattle.felica_parse.proofs.Entry.{refusal-account}
+use Rattle.felica_command.proofs.Settled.{refusal-account}
 use Rattle.felica_parse.proofs.refuse_code.Statement.{statement}
 use Rattle.felica_parse.proofs.refuse_code.Tie as tie
 

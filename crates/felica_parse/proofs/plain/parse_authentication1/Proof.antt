@@ -13,9 +13,9 @@ use Rattle.felica_cursor.specs.Steps.{codesTaken, CodesPlaced}
 use Rattle.felica_cursor.specs.declared.answers.Moved.{Moved}
 use Rattle.felica_cursor.specs.declared.answers.ListTaken.{ListTaken}
 use Rattle.felica_command.specs.declared.command.FelicaStandardCommand.the-variants.{Authentication1}
-use Rattle.felica_parse.proofs.Walk.{on, stop, body, no-selector, no-elements, no-data, no-package, refused-at, accepted-at}
-use Rattle.felica_parse.proofs.Walk.{idmStep, endStep}
-use Rattle.felica_parse.proofs.Spots.{places-eq, codes-part}
+use Rattle.felica_cursor.proofs.Walk.{on, stop, body, no-selector, no-elements, no-data, no-package, refused-at, accepted-at}
+use Rattle.felica_cursor.proofs.Walk.{idmStep, endStep}
+use Rattle.felica_command.proofs.Spots.{places-eq, codes-part}
 use Rattle.felica_parse.proofs.Layouts.{layout-10}
 use Rattle.felica_parse.proofs.plain.parse_authentication1.Statement.{statement}
 use Rattle.felica_parse.proofs.plain.parse_authentication1.Tie as tie

@@ -13,9 +13,9 @@ use Rattle.felica_cursor.specs.declared.answers.Moved.{Moved}
 use Rattle.felica_cursor.specs.declared.answers.ByteTaken.{ByteTaken}
 use Rattle.felica_cursor.specs.declared.answers.ListTaken.{ListTaken}
 use Rattle.felica_command.specs.declared.command.FelicaStandardCommand.the-variants.{Authentication1V2}
-use Rattle.felica_parse.proofs.Walk.{on, stop, body, no-codes, no-elements, no-data, no-package, refused-at, accepted-at}
-use Rattle.felica_parse.proofs.Walk.{idmStep, endStep, byteStep}
-use Rattle.felica_parse.proofs.Spots.{places-eq, codes-part}
+use Rattle.felica_cursor.proofs.Walk.{on, stop, body, no-codes, no-elements, no-data, no-package, refused-at, accepted-at}
+use Rattle.felica_cursor.proofs.Walk.{idmStep, endStep, byteStep}
+use Rattle.felica_command.proofs.Spots.{places-eq, codes-part}
 use Rattle.felica_parse.proofs.Layouts.{layout-40}
 use Rattle.felica_parse.proofs.plain.parse_authentication1_v2.Statement.{statement}
 use Rattle.felica_parse.proofs.plain.parse_authentication1_v2.Tie as tie

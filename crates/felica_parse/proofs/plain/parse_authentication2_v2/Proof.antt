@@ -7,8 +7,8 @@ use Rattle.felica_format.specs.Read.{wordsOf, readEach}
 use Rattle.felica_command.specs.Places.{layoutPlaces}
 use Rattle.felica_cursor.specs.Answers.{movedGround}
 use Rattle.felica_command.specs.declared.command.FelicaStandardCommand.the-variants.{Authentication2V2}
-use Rattle.felica_parse.proofs.Walk.{on, stop, body, no-selector, no-codes, no-elements, no-data, no-package, refused-at, accepted-at}
-use Rattle.felica_parse.proofs.Walk.{idmStep, endStep}
+use Rattle.felica_cursor.proofs.Walk.{on, stop, body, no-selector, no-codes, no-elements, no-data, no-package, refused-at, accepted-at}
+use Rattle.felica_cursor.proofs.Walk.{idmStep, endStep}
 use Rattle.felica_parse.proofs.Layouts.{layout-42}
 use Rattle.felica_parse.proofs.plain.parse_authentication2_v2.Statement.{statement}
 use Rattle.felica_parse.proofs.plain.parse_authentication2_v2.Tie as tie

@@ -9,8 +9,8 @@ use Rattle.felica_command.specs.Places.{layoutPlaces}
 use Rattle.felica_cursor.specs.Answers.{wordGround}
 use Rattle.felica_command.proofs.Typed.{property-index, property-canonical}
 use Rattle.felica_command.specs.declared.command.FelicaStandardCommand.the-variants.{GetContainerProperty}
-use Rattle.felica_parse.proofs.Walk.{on, stop, body, no-idm, no-selector, no-codes, no-elements, no-data, no-package, refused-at, accepted-at}
-use Rattle.felica_parse.proofs.Walk.{wordStep}
+use Rattle.felica_cursor.proofs.Walk.{on, stop, body, no-idm, no-selector, no-codes, no-elements, no-data, no-package, refused-at, accepted-at}
+use Rattle.felica_cursor.proofs.Walk.{wordStep}
 use Rattle.felica_parse.proofs.Layouts.{layout-2E}
 use Rattle.felica_parse.proofs.plain.parse_get_container_property.Statement.{statement}
 use Rattle.felica_parse.proofs.plain.parse_get_container_property.Tie as tie

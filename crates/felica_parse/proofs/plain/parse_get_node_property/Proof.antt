@@ -14,9 +14,9 @@ use Rattle.felica_cursor.specs.declared.answers.Moved.{Moved}
 use Rattle.felica_cursor.specs.declared.answers.ListTaken.{ListTaken}
 use Rattle.felica_cursor.specs.declared.answers.PropertyTypeTaken.{PropertyTypeTaken}
 use Rattle.felica_command.specs.declared.command.FelicaStandardCommand.the-variants.{GetNodeProperty}
-use Rattle.felica_parse.proofs.Walk.{on, stop, body, no-codes, no-elements, no-data, no-package, refused-at, accepted-at}
-use Rattle.felica_parse.proofs.Walk.{idmStep, endStep, propertyTypeStep}
-use Rattle.felica_parse.proofs.Spots.{places-eq, codes-part}
+use Rattle.felica_cursor.proofs.Walk.{on, stop, body, no-codes, no-elements, no-data, no-package, refused-at, accepted-at}
+use Rattle.felica_cursor.proofs.Walk.{idmStep, endStep, propertyTypeStep}
+use Rattle.felica_command.proofs.Spots.{places-eq, codes-part}
 use Rattle.felica_parse.proofs.Layouts.{layout-28}
 use Rattle.felica_parse.proofs.plain.parse_get_node_property.Statement.{statement}
 use Rattle.felica_parse.proofs.plain.parse_get_node_property.Tie as tie

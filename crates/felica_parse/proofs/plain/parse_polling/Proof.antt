@@ -8,8 +8,8 @@ use Rattle.felica_format.specs.Read.{wordsOf, readEach}
 use Rattle.felica_command.specs.Places.{layoutPlaces}
 use Rattle.felica_cursor.specs.Answers.{pollingGround}
 use Rattle.felica_command.specs.declared.command.FelicaStandardCommand.the-variants.{Polling}
-use Rattle.felica_parse.proofs.Walk.{on, stop, body, no-idm, no-selector, no-codes, no-elements, no-data, no-package, refused-at, accepted-at}
-use Rattle.felica_parse.proofs.Walk.{pollingStep}
+use Rattle.felica_cursor.proofs.Walk.{on, stop, body, no-idm, no-selector, no-codes, no-elements, no-data, no-package, refused-at, accepted-at}
+use Rattle.felica_cursor.proofs.Walk.{pollingStep}
 use Rattle.felica_parse.proofs.Layouts.{layout-00}
 use Rattle.felica_parse.proofs.plain.parse_polling.Statement.{statement}
 use Rattle.felica_parse.proofs.plain.parse_polling.Tie as tie

@@ -14,9 +14,9 @@ use Rattle.felica_cursor.specs.Steps.{codesTaken, elementsTaken, CodesPlaced, E
 use Rattle.felica_cursor.specs.declared.answers.Moved.{Moved}
 use Rattle.felica_cursor.specs.declared.answers.ListTaken.{ListTaken}
 use Rattle.felica_command.specs.declared.command.FelicaStandardCommand.the-variants.{ReadWithoutEncryption}
-use Rattle.felica_parse.proofs.Walk.{on, stop, body, no-selector, no-codes, no-data, no-package, refused-at, accepted-at}
-use Rattle.felica_parse.proofs.Walk.{idmStep, endStep}
-use Rattle.felica_parse.proofs.Spots.{places-eq, codes-part, elements-part}
+use Rattle.felica_cursor.proofs.Walk.{on, stop, body, no-selector, no-codes, no-data, no-package, refused-at, accepted-at}
+use Rattle.felica_cursor.proofs.Walk.{idmStep, endStep}
+use Rattle.felica_command.proofs.Spots.{places-eq, codes-part, elements-part}
 use Rattle.felica_parse.proofs.Layouts.{layout-06}
 use Rattle.felica_parse.proofs.plain.parse_read_without_encryption.Statement.{statement}
 use Rattle.felica_parse.proofs.plain.parse_read_without_encryption.Tie as tie

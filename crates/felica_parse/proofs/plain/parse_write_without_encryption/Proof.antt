@@ -15,9 +15,9 @@ use Rattle.felica_cursor.specs.Steps.{codesTaken, elementsTaken, dataTaken, Cod
 use Rattle.felica_cursor.specs.declared.answers.Moved.{Moved}
 use Rattle.felica_cursor.specs.declared.answers.ListTaken.{ListTaken}
 use Rattle.felica_command.specs.declared.command.FelicaStandardCommand.the-variants.{WriteWithoutEncryption}
-use Rattle.felica_parse.proofs.Walk.{on, stop, body, no-selector, no-codes, no-package, data-counted, refused-at, accepted-at}
-use Rattle.felica_parse.proofs.Walk.{idmStep, endStep}
-use Rattle.felica_parse.proofs.Spots.{places-eq, codes-part, elements-part, data-part, behind-blocks}
+use Rattle.felica_cursor.proofs.Walk.{on, stop, body, no-selector, no-codes, no-package, data-counted, refused-at, accepted-at}
+use Rattle.felica_cursor.proofs.Walk.{idmStep, endStep}
+use Rattle.felica_command.proofs.Spots.{places-eq, codes-part, elements-part, data-part, behind-blocks}
 use Rattle.felica_parse.proofs.Layouts.{layout-08}
 use Rattle.felica_parse.proofs.plain.parse_write_without_encryption.Statement.{statement}
 use Rattle.felica_parse.proofs.plain.parse_write_without_encryption.Tie as tie

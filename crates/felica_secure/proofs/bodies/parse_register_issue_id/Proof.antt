@@ -10,12 +10,12 @@ use Rattle.felica_command.specs.Places.{layoutPlaces}
 use Rattle.felica_cursor.specs.Answers.{MovesTo, movedWith, movedGround}
 use Rattle.felica_cursor.specs.declared.answers.Moved.{Moved}
 use Rattle.felica_command.specs.declared.command.FelicaStandardCommand.the-variants.{RegisterIssueId}
-use Rattle.felica_parse.proofs.Walk.{on, stop, body, no-idm, no-selector, no-codes, no-elements, no-data, whole-package, refused-at, accepted-at}
-use Rattle.felica_parse.proofs.Walk.{endStep}
-use Rattle.felica_parse.proofs.Spots.{places-eq, package-bytes, package-part}
-use Rattle.felica_parse.proofs.Layouts.{layout-80}
-use Rattle.felica_parse.proofs.secure.parse_register_issue_id.Statement.{statement}
-use Rattle.felica_parse.proofs.secure.parse_register_issue_id.Tie as tie
+use Rattle.felica_cursor.proofs.Walk.{on, stop, body, no-idm, no-selector, no-codes, no-elements, no-data, whole-package, refused-at, accepted-at}
+use Rattle.felica_cursor.proofs.Walk.{endStep}
+use Rattle.felica_command.proofs.Spots.{places-eq, package-bytes, package-part}
+use Rattle.felica_secure.proofs.Layouts.{layout-80}
+use Rattle.felica_secure.proofs.bodies.parse_register_issue_id.Statement.{statement}
+use Rattle.felica_secure.proofs.bodies.parse_register_issue_id.Tie as tie
 
 returns : tie.Need-returns
 returns c =

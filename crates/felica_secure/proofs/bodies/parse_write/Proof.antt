@@ -12,11 +12,11 @@ use Rattle.felica_command.specs.Places.{layoutPlaces}
 use Rattle.felica_cursor.specs.Answers.{listGround}
 use Rattle.felica_cursor.specs.Steps.{elementsTaken, dataTaken, ElementsPlaced, DataPlaced}
 use Rattle.felica_cursor.specs.declared.answers.ListTaken.{ListTaken}
-use Rattle.felica_parse.proofs.Walk.{on, stop, body, no-idm, no-selector, no-codes, ignored-ending, ignored-package, data-counted, refused-at, accepted-at}
-use Rattle.felica_parse.proofs.Spots.{places-eq, elements-part, data-part, behind-blocks}
-use Rattle.felica_parse.proofs.Layouts.{write-layout}
-use Rattle.felica_parse.proofs.secure.parse_write.Statement.{statement}
-use Rattle.felica_parse.proofs.secure.parse_write.Tie as tie
+use Rattle.felica_cursor.proofs.Walk.{on, stop, body, no-idm, no-selector, no-codes, ignored-ending, ignored-package, data-counted, refused-at, accepted-at}
+use Rattle.felica_command.proofs.Spots.{places-eq, elements-part, data-part, behind-blocks}
+use Rattle.felica_secure.proofs.Layouts.{write-layout}
+use Rattle.felica_secure.proofs.bodies.parse_write.Statement.{statement}
+use Rattle.felica_secure.proofs.bodies.parse_write.Tie as tie
 
 returns : tie.Need-returns
 returns c =

@@ -11,11 +11,11 @@ use Rattle.felica_command.specs.Places.{layoutPlaces}
 use Rattle.felica_cursor.specs.Answers.{listGround}
 use Rattle.felica_cursor.specs.Steps.{elementsTaken, ElementsPlaced}
 use Rattle.felica_cursor.specs.declared.answers.ListTaken.{ListTaken}
-use Rattle.felica_parse.proofs.Walk.{on, stop, body, no-idm, no-selector, no-codes, no-data, ignored-ending, ignored-package, refused-at, accepted-at}
-use Rattle.felica_parse.proofs.Spots.{places-eq, elements-part}
-use Rattle.felica_parse.proofs.Layouts.{read-layout}
-use Rattle.felica_parse.proofs.secure.parse_read.Statement.{statement}
-use Rattle.felica_parse.proofs.secure.parse_read.Tie as tie
+use Rattle.felica_cursor.proofs.Walk.{on, stop, body, no-idm, no-selector, no-codes, no-data, ignored-ending, ignored-package, refused-at, accepted-at}
+use Rattle.felica_command.proofs.Spots.{places-eq, elements-part}
+use Rattle.felica_secure.proofs.Layouts.{read-layout}
+use Rattle.felica_secure.proofs.bodies.parse_read.Statement.{statement}
+use Rattle.felica_secure.proofs.bodies.parse_read.Tie as tie
 
 returns : tie.Need-returns
 returns c =

@@ -6,9 +6,10 @@ use mathlib.Core.Option.{some}
 use denote.Ref.{now}
 use Rattle.felica_format.specs.Layout.{classOf, has, plainRows, secureRows}
 use Rattle.felica_format.specs.Read.{readSecure}
-use Rattle.felica_parse.proofs.Entry.{refusal-settled, secure-refused, secure-settled, not-secure, read-secure, write-secure, register-secure}
-use Rattle.felica_parse.proofs.parse_secure_payload.Statement.{statement}
-use Rattle.felica_parse.proofs.parse_secure_payload.Tie as tie
+use Rattle.felica_command.proofs.Settled.{refusal-settled}
+use Rattle.felica_secure.proofs.Entry.{secure-refused, secure-settled, not-secure, read-secure, write-secure, register-secure}
+use Rattle.felica_secure.proofs.parse_secure_payload.Statement.{statement}
+use Rattle.felica_secure.proofs.parse_secure_payload.Tie as tie
 
 parse-read-requires : tie.Need-parse-read-requires
 parse-read-requires c κs = search needs

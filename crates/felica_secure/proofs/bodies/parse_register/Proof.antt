@@ -9,12 +9,12 @@ use Rattle.felica_format.specs.Read.{wordsOf, readEach}
 use Rattle.felica_command.specs.Places.{layoutPlaces}
 use Rattle.felica_cursor.specs.Answers.{MovesTo, wordTaken, wordGround}
 use Rattle.felica_cursor.specs.declared.answers.WordTaken.{WordTaken}
-use Rattle.felica_parse.proofs.Walk.{on, stop, body, no-idm, no-selector, no-codes, no-elements, no-data, whole-package, refused-at, accepted-at}
-use Rattle.felica_parse.proofs.Walk.{wordStep}
-use Rattle.felica_parse.proofs.Spots.{places-eq, package-bytes, package-part}
-use Rattle.felica_parse.proofs.Layouts.{register-layout}
-use Rattle.felica_parse.proofs.secure.parse_register.Statement.{statement}
-use Rattle.felica_parse.proofs.secure.parse_register.Tie as tie
+use Rattle.felica_cursor.proofs.Walk.{on, stop, body, no-idm, no-selector, no-codes, no-elements, no-data, whole-package, refused-at, accepted-at}
+use Rattle.felica_cursor.proofs.Walk.{wordStep}
+use Rattle.felica_command.proofs.Spots.{places-eq, package-bytes, package-part}
+use Rattle.felica_secure.proofs.Layouts.{register-layout}
+use Rattle.felica_secure.proofs.bodies.parse_register.Statement.{statement}
+use Rattle.felica_secure.proofs.bodies.parse_register.Tie as tie
 
 returns : tie.Need-returns
 returns c =

@@ -8,11 +8,11 @@ use Rattle.felica_format.specs.Read.{wordsOf, readEach}
 use Rattle.felica_command.specs.Places.{layoutPlaces}
 use Rattle.felica_cursor.specs.Answers.{movedGround}
 use Rattle.felica_command.specs.declared.command.FelicaStandardCommand.the-variants.{ChangeSystemBlock}
-use Rattle.felica_parse.proofs.Walk.{on, stop, body, no-idm, no-selector, no-codes, no-elements, no-data, no-package, refused-at, accepted-at}
-use Rattle.felica_parse.proofs.Walk.{endStep}
-use Rattle.felica_parse.proofs.Layouts.{layout-8E}
-use Rattle.felica_parse.proofs.secure.parse_change_system_block.Statement.{statement}
-use Rattle.felica_parse.proofs.secure.parse_change_system_block.Tie as tie
+use Rattle.felica_cursor.proofs.Walk.{on, stop, body, no-idm, no-selector, no-codes, no-elements, no-data, no-package, refused-at, accepted-at}
+use Rattle.felica_cursor.proofs.Walk.{endStep}
+use Rattle.felica_secure.proofs.Layouts.{layout-8E}
+use Rattle.felica_secure.proofs.bodies.parse_change_system_block.Statement.{statement}
+use Rattle.felica_secure.proofs.bodies.parse_change_system_block.Tie as tie
 
 returns : tie.Need-returns
 returns c =

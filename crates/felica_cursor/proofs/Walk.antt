@@ -18,15 +18,15 @@ use Rattle.felica_command.specs.Places.{placesIn, layoutPlaces}
 use Rattle.felica_command.specs.declared.command.Answer.the-variants.{Command as AnswerCommand}
 use Rattle.felica_command.specs.declared.command.FelicaStandardCommand.{FelicaStandardCommand}
 use Rattle.felica_command.specs.declared.command.Parsed.{Parsed}
 use Rattle.felica_cursor.specs.Answers.{asStep, movedWith, byteTaken, propertyTypeTaken, wordTaken, wordsTaken, pollingTaken, parameterTaken}
 use Rattle.felica_cursor.specs.declared.answers.Moved.{Moved}
 use Rattle.felica_cursor.specs.declared.answers.ByteTaken.{ByteTaken}
 use Rattle.felica_cursor.specs.declared.answers.PropertyTypeTaken.{PropertyTypeTaken}
 use Rattle.felica_cursor.specs.declared.answers.WordTaken.{WordTaken}
 use Rattle.felica_cursor.specs.declared.answers.WordsTaken.{WordsTaken}
 use Rattle.felica_cursor.specs.declared.answers.PollingTaken.{PollingTaken}
 use Rattle.felica_cursor.specs.declared.answers.ParameterTaken.{ParameterTaken}
-use Rattle.felica_parse.specs.Bodies.{BodyRead}
+use Rattle.felica_cursor.specs.Body.{BodyRead}
 
 pub on : {A B : Type 0} {x : Step A} {a : A} {r : List ℕ} {y : Step B} (k : A → List ℕ → Step B) → x ≡ taken a r → k a r ≡ y → bind x k ≡ y
 unfolding bind

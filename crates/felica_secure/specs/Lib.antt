@@ -1,0 +1,2 @@
+-- The codes of secure commands that share a body.
+pub mod Bodies
