@@ -18,7 +18,7 @@ use Rattle.felica_command.specs.declared.command.Parsed.{Parsed}
 use Rattle.felica_command.proofs.Inside.{payload-inside}
 use Rattle.felica_command.proofs.Settled.{Settled, settled}
 use Rattle.felica_cursor.specs.Body.{BodyRead}
-use Rattle.felica_parse.specs.Bodies.{CodeListCode, IdmAloneCode, WordCode, ReservedCode}
+use Rattle.felica_parse.specs.Codes.{CodeListCode, IdmAloneCode, WordCode, ReservedCode}
 
 -- a payload of no bytes; one that begins with a code
 pub payload-empty : (s : List ℕ) → length s ≡ 0 → readPayload s ≡ refused 3 none

@@ -1,4 +1,4 @@
--- The layout of each code, its ranges as rows of the table of bounds.
+-- The layout of each plain code, its ranges as rows of the table of bounds.
 -- Assumes nothing.
 use Prim.Native.Nat.{ℕ}
 use mathlib.Core.Path.{_≡_, refl}
@@ -6,7 +6,7 @@ use mathlib.Core.Bool.{true, false}
 use mathlib.Core.Logic.{⊎-elim}
 use Rattle.felica_format.specs.Layout.{noSelector, typeByte, anyByte, noCodes, _to_, bytes, word, words, reserved, polling, parameter, bare}
 use Rattle.felica_format.specs.Layout.{nothing, layout, plainRows, secureRows, has, layoutIn, layoutOf, boundsAt}
-use Rattle.felica_parse.specs.Bodies.{CodeListCode, IdmAloneCode, WordCode, ReservedCode}
+use Rattle.felica_parse.specs.Codes.{CodeListCode, IdmAloneCode, WordCode, ReservedCode}
 
 pub layout-00 : layoutOf 0x00 ≡ layout false noSelector noCodes noCodes false false polling nothing
 unfolding layoutOf layoutIn has plainRows secureRows boundsAt

@@ -1,2 +1,2 @@
--- The bodies of codes that share a layout.
-pub mod Bodies
+-- The plain codes that share a layout.
+pub mod Codes

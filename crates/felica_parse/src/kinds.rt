@@ -1,7 +1,7 @@
 // The command of each code where several share a layout.
 ghost use mathlib.Core.Path.{_≡_};
 ghost use Rattle.felica_command.specs.Meaning.{fieldsOf, fixed, listed};
-ghost use Rattle.felica_parse.specs.Bodies.{CodeListCode, IdmAloneCode, WordCode, ReservedCode};
+ghost use Rattle.felica_parse.specs.Codes.{CodeListCode, IdmAloneCode, WordCode, ReservedCode};
 use felica_command::command::FelicaStandardCommand;
 use felica_command::command::Part;
 use felica_command::types::NodeCode;

@@ -7,7 +7,7 @@ ghost use Rattle.felica_format.specs.Layout.{classOf};
 ghost use Rattle.felica_format.specs.Read.{readPayload, readPlainAs};
 ghost use Rattle.felica_command.specs.Meaning.{meaning, Canonical};
 ghost use Rattle.felica_command.specs.Places.{placesOf, readPlaces, Inside, Account};
-ghost use Rattle.felica_parse.specs.Bodies.{NotPlain};
+ghost use Rattle.felica_parse.specs.Codes.{NotPlain};
 
 mod kinds;
 mod plain;

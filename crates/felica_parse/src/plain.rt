@@ -1,6 +1,6 @@
 // The plain commands. A body begins behind the code byte, at 1.
 ghost use Rattle.felica_cursor.specs.Body.{BodyRead};
-ghost use Rattle.felica_parse.specs.Bodies.{CodeListCode, IdmAloneCode, WordCode, ReservedCode};
+ghost use Rattle.felica_parse.specs.Codes.{CodeListCode, IdmAloneCode, WordCode, ReservedCode};
 use crate::kinds::code_list_kind;
 use crate::kinds::idm_alone_kind;
 use crate::kinds::reserved_kind;

@@ -17,7 +17,7 @@ use Rattle.felica_command.specs.declared.command.Parsed.{Parsed}
 use Rattle.felica_command.proofs.Inside.{secure-inside}
 use Rattle.felica_command.proofs.Settled.{Settled, settled}
 use Rattle.felica_cursor.specs.Body.{BodyRead}
-use Rattle.felica_secure.specs.Bodies.{ReadCode, WriteCode, RegisterCode}
+use Rattle.felica_secure.specs.Codes.{ReadCode, WriteCode, RegisterCode}
 
 -- the class of the codes that share a layout
 pub read-secure : (code : ℕ) → ReadCode code → classOf code ≡ Secure

@@ -6,7 +6,7 @@ use mathlib.Core.Bool.{true, false}
 use mathlib.Core.Logic.{⊎-elim}
 use Rattle.felica_format.specs.Layout.{noSelector, noCodes, bytes, word, bare, nothing, ignoredBytes, aPackage, layout, plainRows, secureRows, has}
 use Rattle.felica_format.specs.Layout.{layoutIn, layoutOf}
-use Rattle.felica_secure.specs.Bodies.{ReadCode, WriteCode, RegisterCode}
+use Rattle.felica_secure.specs.Codes.{ReadCode, WriteCode, RegisterCode}
 
 pub read-layout : (code : ℕ) → ReadCode code → layoutOf code ≡ layout false noSelector noCodes noCodes true false bare ignoredBytes
 unfolding layoutOf layoutIn has plainRows secureRows

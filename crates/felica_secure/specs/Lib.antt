@@ -1,2 +1,2 @@
--- The codes of secure commands that share a body.
-pub mod Bodies
+-- The secure codes that share a layout.
+pub mod Codes

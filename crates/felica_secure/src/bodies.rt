@@ -1,6 +1,6 @@
 // The secure commands, by their decrypted payloads. There is no code byte, and a body begins at 0.
 ghost use Rattle.felica_cursor.specs.Body.{BodyRead};
-ghost use Rattle.felica_secure.specs.Bodies.{ReadCode, WriteCode, RegisterCode};
+ghost use Rattle.felica_secure.specs.Codes.{ReadCode, WriteCode, RegisterCode};
 use crate::kinds::read_kind;
 use crate::kinds::register_kind;
 use crate::kinds::write_kind;

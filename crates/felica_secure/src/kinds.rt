@@ -1,7 +1,7 @@
 // The command of each code where two share a layout.
 ghost use mathlib.Core.Path.{_≡_};
 ghost use Rattle.felica_command.specs.Meaning.{noPart, fieldsOf, blocks, packed};
-ghost use Rattle.felica_secure.specs.Bodies.{ReadCode, WriteCode, RegisterCode};
+ghost use Rattle.felica_secure.specs.Codes.{ReadCode, WriteCode, RegisterCode};
 use felica_command::command::FelicaStandardCommand;
 use felica_command::command::Part;
 use felica_command::types::NodeCode;

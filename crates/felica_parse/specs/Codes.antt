@@ -1,4 +1,4 @@
--- Codes that share a layout, and those that have none here.
+-- Plain codes that share a layout, and the codes that are not plain.
 -- Assumes nothing.
 use Prim.Native.Nat.{ℕ}
 use mathlib.Core.Path.{_≡_}

@@ -1,4 +1,4 @@
--- Codes that share a layout.
+-- Secure codes that share a layout.
 -- Assumes nothing.
 use Prim.Native.Nat.{ℕ}
 use mathlib.Core.Path.{_≡_}
