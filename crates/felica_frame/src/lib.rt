@@ -1,4 +1,4 @@
-// A frame, the port of parse_frame of command/parse.rs: the length byte, and the payload behind it.
+// The port of parse_frame of command/parse.rs.
 ghost use mathlib.Core.Path.{_≡_};
 ghost use lib.ListN.{drop};
 ghost use Rattle.felica_format.specs.Read.{readFrame};
@@ -8,7 +8,7 @@ use felica_command::command::Parsed;
 use felica_format::error;
 use felica_parse::parse_payload;
 
-// A frame: the length byte, which counts itself, and the payload. The places of the parts count from the payload's first byte.
+// The length byte counts itself. The places of the parts count from the first byte behind it.
 pub fn parse_frame(frame: &[u8]) -> Parsed
     ensures { λ r. ⌜ (meaning (drop 1 (now (frame .entry))) r ≡ readFrame (now (frame .entry))) × (placesOf r ≡ readPlaces 1 (drop 1 (now (frame .entry))) (readFrame (now (frame .entry)))) × Canonical r × Inside (drop 1 (now (frame .entry))) (placesOf r) ⌝ }
 {
@@ -22,7 +22,7 @@ pub fn parse_frame(frame: &[u8]) -> Parsed
     parse_payload(&frame[1..])
 }
 
-// The payload of a frame: what stands behind the length byte. The places in the result of `parse_frame` count from its first byte.
+// The bytes that the places in a result of `parse_frame` count from.
 pub fn payload_of(frame: &[u8]) -> &[u8]
     ensures { λ r. ⌜ now r ≡ drop 1 (now (frame .entry)) ⌝ }
 {
