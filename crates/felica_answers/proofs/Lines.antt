@@ -9,7 +9,7 @@ use Rattle.felica_command.specs.declared.command.Refusal.the-variants.{Number, 
 use Rattle.felica_write.specs.Writing.{meaning, outcome}
 use Rattle.felica_write.specs.declared.Written.{Written}
 use Rattle.felica_write.specs.declared.Written.the-variants.{Length, Refused}
-use Rattle.felica_answers.specs.Answer.{refusalText}
+use Rattle.felica_fields.specs.Refused.{refusalText}
 use Rattle.felica_answers.specs.Written.{bytesLine, writtenLine}
 
 module _ (written : Written) (room : List ℕ) where

@@ -12,7 +12,7 @@ use Rattle.felica_command.specs.declared.command.Answer.the-variants.{Command a
 use Rattle.felica_command.specs.declared.command.Refusal.{Refusal}
 use Rattle.felica_command.specs.declared.command.Refusal.the-variants.{Number, OfCommand}
 use Rattle.felica_command.specs.declared.lists.Lists.{Lists}
-use Rattle.felica_answers.specs.Answer.{refusalText}
+use Rattle.felica_fields.specs.Refused.{refusalText}
 use Rattle.felica_answers.specs.Lists.{listsText, listLine, listedText}
 
 -- a refusal's line is the parser's

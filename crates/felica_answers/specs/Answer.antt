@@ -3,7 +3,6 @@
 use Prim.Native.Nat.{ℕ}
 use mathlib.Core.Bool.{Bool, true, false}
 use mathlib.Core.List.{List, [], _++_}
-use mathlib.Core.Option.{Option, none, some}
 use Rattle.felica_command.specs.Types.{propertyIndex, nodePropertyByte, encryptionByte, packetByte}
 use Rattle.felica_command.specs.Meaning.{fieldsOf}
 use Rattle.felica_command.specs.declared.command.FelicaStandardCommand.{FelicaStandardCommand}
@@ -18,14 +17,13 @@ use Rattle.felica_command.specs.declared.command.FelicaStandardCommand.the-vari
 use Rattle.felica_command.specs.declared.command.FelicaStandardCommand.the-variants.{RequestSpecificationVersion, ResetMode, Authentication1V2}
 use Rattle.felica_command.specs.declared.command.FelicaStandardCommand.the-variants.{Authentication2V2, GetContainerId, RegisterIssueId, RegisterArea}
 use Rattle.felica_command.specs.declared.command.FelicaStandardCommand.the-variants.{RegisterService, ChangeSystemBlock}
-use Rattle.felica_command.specs.declared.command.Refusal.{Refusal}
-use Rattle.felica_command.specs.declared.command.Refusal.the-variants.{Number, OfCommand}
 use Rattle.felica_command.specs.declared.command.Answer.{Answer}
 use Rattle.felica_command.specs.declared.command.Answer.the-variants.{Command as AnswerCommand, Refused as AnswerRefused}
 use Rattle.felica_command.specs.declared.command.Parsed.{Parsed}
-use Rattle.felica_text.specs.Text.{text, byteText, decimalText}
+use Rattle.felica_text.specs.Text.{text, byteText}
 use Rattle.felica_fields.specs.Field.{byteField, wordField, idmField, firstField, secondField, blocksField, dataField, packageField}
 use Rattle.felica_fields.specs.Field.{challenge8, challenge16, issueFields}
+use Rattle.felica_fields.specs.Refused.{refusalText}
 
 -- the fields of a command in the order of the layouts: the IDm or none, codes with what stands before them, blocks with their data,
 -- fixed fields, package
@@ -84,15 +82,6 @@ idmText false idm = []
 
 abbrev pub rowText : List ℕ → Row → List ℕ
 rowText idm r = idmText (r .idm) idm ++ (r .codes ++ (r .blocks ++ (r .fixed ++ r .issuePackage)))
-
--- "A refusal gives its number and, from 4 up, the command code"
-abbrev pub refusedText : ℕ → Option ℕ → List ℕ
-refusedText n none = text "NO " ++ (decimalText n ++ text " --")
-refusedText n (some code) = text "NO " ++ (decimalText n ++ (text " " ++ byteText code))
-
-abbrev pub refusalText : Refusal → List ℕ
-refusalText (Number n) = refusedText n none
-refusalText (OfCommand n code) = refusedText n (some code)
 
 abbrev pub commandText : List ℕ → List ℕ → List ℕ → FelicaStandardCommand → List ℕ
 commandText s idm ch kind = text "OK " ++ (byteText (fieldsOf kind .code) ++ rowText idm (rowOf s ch kind))

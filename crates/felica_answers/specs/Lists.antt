@@ -9,7 +9,7 @@ use Rattle.felica_command.specs.declared.command.Answer.{Answer}
 use Rattle.felica_command.specs.declared.command.Answer.the-variants.{Command as AnswerCommand, Refused as AnswerRefused}
 use Rattle.felica_text.specs.Text.{text, byteText}
 use Rattle.felica_fields.specs.Field.{wordsField, nibblesField}
-use Rattle.felica_answers.specs.Answer.{refusedText, refusalText}
+use Rattle.felica_fields.specs.Refused.{refusedText, refusalText}
 
 -- codes and block numbers in four digits, places and modes in one
 unfoldable pub listsText : ℕ → List ℕ → List ℕ → List ℕ → List ℕ → List ℕ → List ℕ

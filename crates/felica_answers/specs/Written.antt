@@ -5,7 +5,7 @@ use mathlib.Core.List.{List, _++_}
 use lib.ListN.{take}
 use Rattle.felica_write.specs.Writing.{Answer, wrote, refused, Outcome}
 use Rattle.felica_text.specs.Text.{text, bytesText, decimalText}
-use Rattle.felica_answers.specs.Answer.{refusedText}
+use Rattle.felica_fields.specs.Refused.{refusedText}
 
 abbrev pub bytesLine : ℕ → List ℕ → List ℕ
 bytesLine n bytes = text "OK " ++ (decimalText n ++ (text " " ++ bytesText bytes))

@@ -1,15 +1,13 @@
 // The line that answers a call of the parser: `OK`, the code and the fields of the command, or `NO`, the number of the refusal and the code.
 ghost use mathlib.Core.Path.{_≡_};
 ghost use Rattle.felica_put.specs.Put.{buffer, put};
-ghost use Rattle.felica_answers.specs.Answer.{refusalText, commandText, lineOf};
+ghost use Rattle.felica_answers.specs.Answer.{commandText, lineOf};
 use crate::fields::put_fields;
 use felica_command::command::Answer;
 use felica_command::command::FelicaStandardCommand as Command;
 use felica_command::command::Parsed;
-use felica_command::command::Refusal;
-use felica_put::put_byte;
+use felica_fields::refusal::put_refusal;
 use felica_put::put_bytes;
-use felica_text::put::put_decimal;
 use felica_text::put::put_hex_byte;
 
 // The payload is the one that the places in `parsed` count from: of a frame, the bytes behind its length byte.
@@ -24,23 +22,6 @@ pub fn put_answer(out: &mut [u8], at: usize, payload: &[u8], parsed: Parsed) -> 
             put_command(out, at, payload, command, idm, challenge)
         }
         Answer::Refused(refusal) => put_refusal(out, at, refusal),
-    }
-}
-
-pub(crate) fn put_refusal(out: &mut [u8], at: usize, refusal: Refusal) -> usize
-    ensures { λ r. ⌜ buffer (now (out .exit)) r ≡ put (buffer (now (out .entry)) at) (refusalText refusal) ⌝ }
-{
-    let next = put_bytes(out, at, b"NO ");
-    match refusal {
-        Refusal::Number(number) => {
-            let behind = put_decimal(out, next, number as usize);
-            put_bytes(out, behind, b" --")
-        }
-        Refusal::OfCommand(number, code) => {
-            let behind = put_decimal(out, next, number as usize);
-            let code_at = put_byte(out, behind, b' ');
-            put_hex_byte(out, code_at, code)
-        }
     }
 }
 

@@ -3,10 +3,10 @@ ghost use mathlib.Core.Path.{_≡_};
 ghost use Rattle.felica_put.specs.Put.{buffer, put};
 ghost use lib.ListN.{take};
 ghost use Rattle.felica_answers.specs.Lists.{listsText, listedText};
-use crate::answer::put_refusal;
 use felica_command::command::Answer;
 use felica_fields::field::put_nibbles_field;
 use felica_fields::field::put_words_field;
+use felica_fields::refusal::put_refusal;
 use felica_put::put_bytes;
 use felica_text::put::put_hex_byte;
 

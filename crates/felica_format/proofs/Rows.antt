@@ -1,6 +1,6 @@
 -- What holds of every row of the two tables, computed once over the rows.
 -- Assumes nothing.
-use Prim.Native.Nat.{ℕ, _<_}
+use Prim.Native.Nat.{ℕ, _≤_, _<_}
 use native.Mathlib.Omega.{arith}
 use mathlib.Core.Path.{_≡_, refl, sym, ap, _∙_, subst}
 use mathlib.Core.Logic.{_⊎_, inl, inr}
@@ -116,6 +116,18 @@ every-layout code = go (classOf code) refl
     go Plain e = plain-layout code e
     go Secure e = secure-layout code e
     go Unknown e = rw (unknown-layout code e) (record { first = omega arith; second = omega arith; ending = omega arith })
+
+-- no code list of a plain layout has more than 32 codes
+few : ℕ → Layout → Bool
+few code l = leb (boundsOf (l .first) .greatest) 32 and leb (boundsOf (l .second) .greatest) 32
+
+plain-few : everyRow few plainRows ≡ true
+unfolding everyRow few plainRows _and_
+plain-few = refl
+
+pub few-codes : (code : ℕ) → classOf code ≡ Plain → (boundsOf (layoutOf code .first) .greatest ≤ 32) × (boundsOf (layoutOf code .second) .greatest ≤ 32)
+unfolding few
+few-codes code e = let h = plain-row few plain-few code e in (leb-true _ _ (and-left _ _ h), leb-true _ _ (and-right _ _ h))
 
 -- "10's two share theirs": where a plain layout has a second code list, its bounds are the first one's
 shares : Codes → Codes → Bool

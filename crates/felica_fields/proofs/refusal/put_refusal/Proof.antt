@@ -1,9 +1,9 @@
--- `felica_answers::answer::put_refusal` meets its contract.
+-- `felica_fields::refusal::put_refusal` meets its contract.
 -- Assumes nothing.
 use Rattle.felica_put.proofs.Laws.{put-then}
 use borrow.Author.Needs.{needs}
-use Rattle.felica_answers.proofs.answer.put_refusal.Statement.{statement}
-use Rattle.felica_answers.proofs.answer.put_refusal.Tie as tie
+use Rattle.felica_fields.proofs.refusal.put_refusal.Statement.{statement}
+use Rattle.felica_fields.proofs.refusal.put_refusal.Tie as tie
 
 slice-aggregate-put-bytes : tie.Need-slice-aggregate-put-bytes
 slice-aggregate-put-bytes c = search needs

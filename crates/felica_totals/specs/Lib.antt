@@ -1,0 +1,2 @@
+-- The totals of a listing.
+pub mod Count
