@@ -14,7 +14,7 @@ use borrow.Author.Tests.{ltb-false, leb-true, leb-false, lt-ltb, le-ltb, ne-eqb}
 use Rattle.felica_format.specs.Basic.{Step, taken, refuse, bind, refuseIf, isOneOf, zeros, wordOf, wordAt, _and_}
 use Rattle.felica_format.specs.Command.{Element, endFields, noFields}
 use Rattle.felica_format.specs.Layout.{Ending, bare, polling, nothing}
-use Rattle.felica_format.specs.Read.{readElement, readEach, readLong, readShort, readEnding, readValues, sizeOf, zeroAt, timeSlots}
+use Rattle.felica_format.specs.Read.{wordsOf, readElement, readEach, readLong, readShort, readEnding, readValues, sizeOf, zeroAt, timeSlots}
 use Rattle.felica_format.proofs.Steps.{none-taken}
 use Rattle.felica_command.specs.Places.{elementSize, elementsSize}
 use Rattle.felica_cursor.specs.Answers.{asStep, MovesTo, movedWith}
@@ -124,6 +124,17 @@ zero-drop (suc n) at i s = rw (getD-drop, zero-drop n at (suc i) s, add-suc)
 
 pub word-drop : (s : List ℕ) (at i : ℕ) → wordAt (drop at s) i ≡ wordAt s (at + i)
 word-drop s at i = simp (getD-drop, add-suc)
+
+-- the codes at a place: one, and those behind it
+pub words-next : (s : List ℕ) (at n k : ℕ) → n ≡ suc k → wordsOf n (drop at s) ≡ wordOf (getD s at 0) (getD s (at + 1) 0) ∷ wordsOf k (drop (at + 2) s)
+unfolding wordsOf
+words-next s at n k e =
+    let here : at + 0 ≡ at = omega arith in
+    rw (e, word-drop s at 0, here, add-one, drop-drop)
+
+pub no-words : (n : ℕ) (l : List ℕ) → n ≡ 0 → wordsOf n l ≡ []
+unfolding wordsOf
+no-words n l e = rw e
 
 -- the fixed bytes that end a layout, once they are measured
 refused-both : {A B : Type 0} (a b : Bool) (x : Step A) (y : Step B) (v : A) (l : List ℕ) (g : ℕ) → x ≡ taken v l

@@ -7,16 +7,15 @@ use native.Mathlib.Numerals.{add-one}
 use native.Mathlib.Omega.{arith}
 use mathlib.Core.Path.{_≡_, sym, ap, _∙_}
 use mathlib.Core.List.{List, [], _∷_, _++_}
-use lib.ListN.{length, getD, set, drop, length-drop}
-use lib.Seq.{sets, sets-eq, drop-drop}
-use Rattle.felica_format.specs.Basic.{taken, refuse, bind, wordOf}
+use lib.ListN.{length, set, drop, length-drop}
+use lib.Seq.{sets, sets-eq}
+use Rattle.felica_format.specs.Basic.{taken, refuse, bind}
 use Rattle.felica_format.specs.Command.{Element}
-use Rattle.felica_format.specs.Read.{wordsOf, readElement, readEach}
+use Rattle.felica_format.specs.Read.{readElement, readEach}
 use Rattle.felica_format.proofs.Steps.{none-taken}
 use Rattle.felica_command.specs.Meaning.{part, elementsAt}
 use Rattle.felica_command.specs.Places.{elementsSize}
 use Rattle.felica_command.proofs.Inside.{each-whole}
-use Rattle.felica_cursor.proofs.Laws.{word-drop}
 use Rattle.felica_lists.specs.Lists.{front}
 
 -- one more entry
@@ -27,17 +26,6 @@ store-more l i {v} {w} {vs} {ws} e is h = rw (is, add-one) (ap (sets l i) (sym e
 pub store-done : (l : List ℕ) (i : ℕ) (m all : List ℕ) {vs : List ℕ} → vs ≡ [] → length all ≤ length m → sets l i vs ≡ sets m 0 all → l ≡ front all m
 store-done l i m all {vs} none room h =
     ap (sets l i) (sym none) ∙ h ∙ sets-eq all m 0 (omega arith) ∙ ap (λ (n : ℕ). all ++ drop n m) (zero-add (length all))
-
--- the codes at a place: one, and those behind it
-pub codes-next : (s : List ℕ) (at n k : ℕ) → n ≡ suc k → wordsOf n (drop at s) ≡ wordOf (getD s at 0) (getD s (at + 1) 0) ∷ wordsOf k (drop (at + 2) s)
-unfolding wordsOf
-codes-next s at n k e =
-    let here : at + 0 ≡ at = omega arith in
-    rw (e, word-drop s at 0, here, add-one, drop-drop)
-
-pub no-codes : (n : ℕ) (l : List ℕ) → n ≡ 0 → wordsOf n l ≡ []
-unfolding wordsOf
-no-codes n l e = rw e
 
 -- the elements at a place: none is refused where their bytes are there; one, and those behind it
 pub none-refused : (s : List ℕ) (at n k g : ℕ) → n ≡ suc k → at + elementsSize n (drop at s) ≤ length s → readElement (drop at s) ≡ refuse g → ⊥

@@ -10,7 +10,8 @@ use lib.Seq.{sets}
 use Rattle.felica_format.specs.Read.{wordsOf}
 use Rattle.felica_command.specs.Meaning.{codesAt}
 use Rattle.felica_command.proofs.Inside.{wordsOf-length}
-use Rattle.felica_lists.proofs.Laws.{store-more, store-done, codes-next, no-codes}
+use Rattle.felica_cursor.proofs.Laws.{words-next, no-words}
+use Rattle.felica_lists.proofs.Laws.{store-more, store-done}
 use Rattle.felica_lists.proofs.fill.fill_codes.Statement.{statement}
 use Rattle.felica_lists.proofs.fill.fill_codes.Tie as tie
 
@@ -56,7 +57,7 @@ loop-again : tie.Need-loop-again Inv-loop μ-loop
 loop-again c =
     let loop = c .before .before .before .before .loop in
     let a = c .before .before .before .before .before .before .before .args in
-    let next = codes-next (a .payload .now) (loop .at) (a .list .count - loop .i) (a .list .count - (loop .i + 1)) (omega arith) in
+    let next = words-next (a .payload .now) (loop .at) (a .list .count - loop .i) (a .list .count - (loop .i + 1)) (omega arith) in
     (omega arith, omega arith, simp length-set (loop .inv .2), store-more (loop .out) (loop .i) next (c .word-of .ensures) (loop .inv .3))
 
 same-length : tie.Need-same-length Inv-loop μ-loop
@@ -67,7 +68,7 @@ returns c =
     let loop = c .before .loop in
     let a = c .before .before .before .before .args in
     let all = codesAt (a .payload .now) (a .list) in
-    store-done (loop .out) (loop .i) (a .out .now) all (no-codes _ _ (omega arith)) (rw wordsOf-length (omega arith)) (loop .inv .3)
+    store-done (loop .out) (loop .i) (a .out .now) all (no-words _ _ (omega arith)) (rw wordsOf-length (omega arith)) (loop .inv .3)
 
 pub fill-codes-spec : {M : Type 1} → statement M
 fill-codes-spec =

@@ -1,0 +1,2 @@
+-- The line of one frame in a listing.
+pub mod Line

@@ -1,0 +1,51 @@
+-- The line of one record of a log: its ordinal, and what its frame gives. "Fields stand one space apart; hexadecimal letters are capitals."
+-- Assumes nothing.
+use Prim.Native.Nat.{ℕ, _%_}
+use mathlib.Core.Bool.{Bool, true, false, cond}
+use mathlib.Core.List.{List, [], _∷_, _++_}
+use lib.Dec.{eqb}
+use lib.ListN.{length}
+use Rattle.felica_format.specs.Command.{Command}
+use Rattle.felica_format.specs.Read.{Answer as Reading, gives, refused}
+use Rattle.felica_text.specs.Text.{text, byteText, decimalText}
+use Rattle.felica_fields.specs.Refused.{refusedText}
+
+-- "Mark `o` (no key) when the code's lowest bit is 1, else `k`."
+abbrev pub markText : ℕ → List ℕ
+markText code = cond (eqb (code % 2) 1) (text "o") (text "k")
+
+unfoldable pub marksText : List ℕ → List ℕ
+marksText [] = []
+marksText (code ∷ codes) = markText code ++ marksText codes
+
+-- "one mark per listed code, run together in field order, or `-` for none"
+unfoldable pub markField : List ℕ → List ℕ
+markField [] = text "-"
+markField (code ∷ codes) = marksText (code ∷ codes)
+
+-- "areas and services together", in field order; of every other command one of the two lists is empty
+abbrev pub listedCodes : Command → List ℕ
+listedCodes c = c .first ++ c .second
+
+-- "OK, code in two digits, number of listed codes, number of blocks", and the marks
+unfoldable pub acceptedText : ℕ → List ℕ → ℕ → List ℕ
+acceptedText code codes blocks =
+    text "OK " ++ (byteText code ++ (text " " ++ (decimalText (length codes) ++ (text " " ++ (decimalText blocks ++ (text " " ++ markField codes))))))
+
+-- "A refused line has ordinal, NO, number, code or `--`."
+abbrev pub frameText : Reading → List ℕ
+frameText (gives c) = acceptedText (c .code) (listedCodes c) (length (c .numbers))
+frameText (refused n code) = refusedText n code
+
+-- "the record's ordinal from 1", then what its frame gives, and the line's end, whose code is 10
+unfoldable pub recordLine : ℕ → Reading → List ℕ
+recordLine ordinal reading = decimalText ordinal ++ (text " " ++ (frameText reading ++ (10 ∷ [])))
+
+-- what a frame counts for in the totals: whether it is accepted, and how many blocks it has then
+abbrev pub isAccepted : Reading → Bool
+isAccepted (gives c) = true
+isAccepted (refused n code) = false
+
+abbrev pub blocksIn : Reading → ℕ
+blocksIn (gives c) = length (c .numbers)
+blocksIn (refused n code) = 0
