@@ -213,7 +213,7 @@ package-inside aPackage s l v r at h here =
     omega (arith, here .1, simp length-drop at k)
 
 -- a walk that took something took each step
-took : {A B X : Type 0} (m : Step A) (next : A → List ℕ → Step B) {b : B} {r : List ℕ} → bind m next ≡ taken b r
+pub took : {A B X : Type 0} (m : Step A) (next : A → List ℕ → Step B) {b : B} {r : List ℕ} → bind m next ≡ taken b r
     → ((a : A) (t : List ℕ) → m ≡ taken a t → next a t ≡ taken b r → X) → X
 took m next h go = let q = bind-taken m next h in go (q .0) (q .1) (q .2) (q .3)
 

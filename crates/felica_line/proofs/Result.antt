@@ -17,13 +17,8 @@ use Rattle.felica_command.specs.declared.command.Answer.the-variants.{Command a
 use Rattle.felica_command.specs.declared.command.Parsed.{Parsed}
 use Rattle.felica_command.specs.declared.lists.Lists.{Lists}
 use Rattle.felica_command.proofs.Inside.{values-counted}
-use Rattle.felica_put.specs.Put.{Buffer, put}
 use Rattle.felica_fields.specs.Refused.{refusalText}
 use Rattle.felica_line.specs.Line.{acceptedText, frameText, isAccepted, blocksIn}
-
--- what is put is the same text
-pub put-same : (b : Buffer) (vs ws : List ℕ) {c : Buffer} → c ≡ put b vs → vs ≡ ws → c ≡ put b ws
-put-same b vs ws e same = e ∙ ap (put b) same
 
 -- what a line says of a reading: its text, whether it is accepted, and its blocks
 abbrev Says : Reading → List ℕ → Bool → ℕ → Type 0

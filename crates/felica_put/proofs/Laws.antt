@@ -23,6 +23,10 @@ put-append b (v ∷ vs) ws = put-append (putByte b v) vs ws
 pub put-then : (b : Buffer) (vs ws : List ℕ) {c d : Buffer} → c ≡ put b vs → d ≡ put c ws → d ≡ put b (vs ++ ws)
 put-then b vs ws first second = second ∙ ap (λ x. put x ws) first ∙ sym (put-append b vs ws)
 
+-- the same piece in other words
+pub put-same : (b : Buffer) (vs ws : List ℕ) {c : Buffer} → c ≡ put b vs → vs ≡ ws → c ≡ put b ws
+put-same b vs ws e same = e ∙ ap (put b) same
+
 -- the first piece of what is to be put
 pub put-rest : (b : Buffer) (vs ws : List ℕ) {c all : Buffer} → put b (vs ++ ws) ≡ all → c ≡ put b vs → put c ws ≡ all
 put-rest b vs ws e first = ap (λ x. put x ws) first ∙ sym (put-append b vs ws) ∙ e

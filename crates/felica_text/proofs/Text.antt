@@ -3,11 +3,11 @@
 use mathlib.Core.Path.{_≡_, refl, sym, ap, _∙_}
 use mathlib.Core.Bool.{Bool, true, false}
 use mathlib.Core.List.{List, [], _∷_, _++_}
-use Prim.Native.Nat.{ℕ, zero, suc, _+_, _/_, _%_, _≤_, _<_}
+use Prim.Native.Nat.{ℕ, zero, suc, _+_, _*_, _/_, _%_, _≤_, _<_}
 use native.Mathlib.Nat.{not-suc-le-zero}
 use native.Mathlib.Omega.{arith}
 use lib.Dec.{ltb}
-use lib.ListN.{length, getD, drop}
+use lib.ListN.{length, getD, drop, length-append}
 use borrow.Author.Tests.{lt-ltb, le-ltb, ltb-true, ltb-false}
 use Rattle.felica_text.specs.Text.{text, digitsText, bytesText, behindCommas, parted, decimalDigits, decimalText}
 
@@ -64,3 +64,18 @@ unfolding decimalText
 decimal-more zero h = absurd (not-suc-le-zero h)
 decimal-more (suc n) h =
     more n (suc n) h ∙ ap (λ (r : List ℕ). r ++ ((48 + suc n % 10) ∷ [])) (same n (suc n / 10) (suc n / 10) (omega arith) (omega arith))
+
+-- a number below a power of ten has no more digits than that has noughts
+abbrev pub tens : ℕ → ℕ
+tens zero = 10
+tens (suc k) = 10 * tens k
+
+pub decimal-length : (k n : ℕ) → n < tens k → length (decimalText n) ≤ suc k
+decimal-length zero n h = rw (decimal-small n h) (omega arith)
+decimal-length (suc k) n h = go (ltb n 10) refl (decimal-length k (n / 10))
+  where
+    go : (b : Bool) → ltb n 10 ≡ b → (n / 10 < tens k → length (decimalText (n / 10)) ≤ suc k) → length (decimalText n) ≤ suc (suc k)
+    go true e ih = rw (decimal-small n (ltb-true n 10 e)) (omega arith)
+    go false e ih =
+        let rest = ih (omega arith) in
+        rw (decimal-more n (ltb-false n 10 e), length-append (decimalText (n / 10)) ((48 + n % 10) ∷ [])) (omega arith)

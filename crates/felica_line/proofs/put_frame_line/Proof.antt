@@ -5,9 +5,9 @@ use mathlib.Core.Path.{sym, ap, _∙_, subst}
 use mathlib.Core.List.{List}
 use Prim.Native.Nat.{ℕ}
 use Rattle.felica_command.specs.Places.{placesOf, Inside}
-use Rattle.felica_put.proofs.Laws.{put-then}
+use Rattle.felica_put.proofs.Laws.{put-then, put-same}
 use Rattle.felica_line.specs.Line.{frameText, recordLine, isAccepted, blocksIn}
-use Rattle.felica_line.proofs.Result.{put-same, frame-says}
+use Rattle.felica_line.proofs.Result.{frame-says}
 use Rattle.felica_line.proofs.put_frame_line.Statement.{statement}
 use Rattle.felica_line.proofs.put_frame_line.Tie as tie
 

@@ -1,7 +1,8 @@
 -- `put_result` meets its contract.
 -- Assumes nothing.
 use borrow.Author.Needs.{needs}
-use Rattle.felica_line.proofs.Result.{put-same, codes-inside, command-says, refused-says}
+use Rattle.felica_put.proofs.Laws.{put-same}
+use Rattle.felica_line.proofs.Result.{codes-inside, command-says, refused-says}
 use Rattle.felica_line.proofs.put_result.Statement.{statement}
 use Rattle.felica_line.proofs.put_result.Tie as tie
 

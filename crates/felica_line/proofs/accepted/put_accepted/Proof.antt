@@ -3,11 +3,10 @@
 use borrow.Author.Needs.{needs}
 use native.Mathlib.Omega.{arith}
 use mathlib.Core.Path.{sym, ap}
-use Rattle.felica_put.proofs.Laws.{put-then}
+use Rattle.felica_put.proofs.Laws.{put-then, put-same}
 use Rattle.felica_text.specs.Text.{decimalText}
 use Rattle.felica_line.specs.Line.{acceptedText}
 use Rattle.felica_line.proofs.Marks.{codes-counted}
-use Rattle.felica_line.proofs.Result.{put-same}
 use Rattle.felica_line.proofs.accepted.put_accepted.Statement.{statement}
 use Rattle.felica_line.proofs.accepted.put_accepted.Tie as tie
 

@@ -3,9 +3,8 @@
 use borrow.Author.Needs.{needs}
 use native.Mathlib.Omega.{arith}
 use mathlib.Core.Path.{sym}
-use Rattle.felica_put.proofs.Laws.{put-then}
+use Rattle.felica_put.proofs.Laws.{put-then, put-same}
 use Rattle.felica_line.proofs.Marks.{no-marks, some-marks}
-use Rattle.felica_line.proofs.Result.{put-same}
 use Rattle.felica_line.proofs.accepted.put_mark_field.Statement.{statement}
 use Rattle.felica_line.proofs.accepted.put_mark_field.Tie as tie
 

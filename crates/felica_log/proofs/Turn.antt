@@ -1,0 +1,195 @@
+-- A turn of the loop that lists a piece: what stands ahead decides whether the step stops or lists one more record.
+-- Assumes nothing.
+use Prim.Native.Nat.{ℕ, zero, suc, _+_, _-_, _≤_, _<_, _^_}
+use native.Mathlib.Numerals.{add-one}
+use native.Mathlib.Omega.{arith}
+use mathlib.Core.Path.{_≡_, refl, sym, ap, _∙_, subst}
+use mathlib.Core.Bool.{Bool, true, false, cond}
+use mathlib.Core.List.{List, [], _∷_}
+use lib.Dec.{ltb, leb}
+use lib.ListN.{length, getD, take, drop, length-drop}
+use lib.Seq.{length-take-le, take-all, drop-drop}
+use borrow.Author.Tests.{ltb-true, ltb-false, leb-true, leb-false, lt-ltb, le-ltb, lt-leb, le-leb}
+use Rattle.felica_format.specs.Read.{readFrame}
+use Rattle.felica_format.specs.Basic.{_and_}
+use Rattle.felica_format.proofs.Tests.{and-both}
+use Rattle.felica_put.specs.Put.{Buffer, put}
+use Rattle.felica_totals.specs.declared.Totals.{Totals}
+use Rattle.felica_totals.specs.Count.{counted, hasRoom, countedWithin}
+use Rattle.felica_totals.proofs.Room.{room, counted-with-room}
+use Rattle.felica_line.specs.Line.{recordLine, isAccepted, blocksIn}
+use Rattle.felica_line.proofs.Bounds.{blocks-few}
+use Rattle.felica_log.specs.declared.Stop.{Stop}
+use Rattle.felica_log.specs.declared.Stop.the-variants.{AtEnd, AtLimit, AtCut, NoRoom, TotalsFull}
+use Rattle.felica_log.specs.declared.ahead.Ahead.{Ahead}
+use Rattle.felica_log.specs.declared.ahead.Ahead.the-variants.{Frame, Stop as StopsBy}
+use Rattle.felica_log.specs.Listing.{front, countedAs, recordsLeft}
+use Rattle.felica_log.specs.Step.{Reached, reached, stepFrom}
+use Rattle.felica_log.specs.Ahead.{aheadOf}
+use Rattle.felica_log.proofs.Front.{front-whole, front-cut, front-some, none-left, one-left}
+
+-- what `aheadOf` tests, on a list of which only the length and the first byte are known
+pub ahead-none : (s : List ℕ) (space : ℕ) (t : Totals) → length s ≡ 0 → aheadOf s space t ≡ StopsBy AtEnd
+unfolding aheadOf
+ahead-none [] space t e = refl
+ahead-none (x ∷ s) space t e = absurd (omega arith)
+
+pub ahead-some : (s : List ℕ) (space : ℕ) (t : Totals) → (length s ≡ 0 → ⊥)
+    → aheadOf s space t
+    ≡ cond (leb 1000000 (t .records)) (StopsBy AtLimit)
+    (cond (ltb (length s - 1) (getD s 0 0)) (StopsBy AtCut)
+    (cond (ltb space 128) (StopsBy NoRoom)
+    (cond (hasRoom t 255) (Frame (getD s 0 0)) (StopsBy TotalsFull))))
+unfolding aheadOf
+ahead-some [] space t some = absurd (some refl)
+ahead-some (x ∷ s) space t some = let n : suc (length s) - 1 ≡ length s = omega arith in rw n
+
+stops-is : {a b : Stop} → StopsBy a ≡ StopsBy b → a ≡ b
+stops-is e = cc
+
+frame-is : {a b : ℕ} → Frame a ≡ Frame b → a ≡ b
+frame-is e = cc
+
+stops-not : {a : Stop} {size : ℕ} → StopsBy a ≡ Frame size → ⊥
+stops-not e = let z : _≡_ {A = ℕ} 0 1 = cc in omega arith
+
+-- the step stops where `aheadOf` says so
+pub step-ended : (n : ℕ) (b : Buffer) (t : Totals) (used : ℕ) (s : List ℕ) → length s ≡ 0 → stepFrom n b t used s ≡ reached b t used AtEnd
+unfolding stepFrom front
+step-ended zero b t used [] e = refl
+step-ended (suc n) b t used [] e = refl
+step-ended n b t used (x ∷ s) e = absurd (omega arith)
+
+pub step-stopped : (b : Buffer) (t : Totals) (used : ℕ) (s : List ℕ) {stop : Stop} → aheadOf s (length (b .bytes) - b .next) t ≡ StopsBy stop
+    → stepFrom (recordsLeft t) b t used s ≡ reached b t used stop
+unfolding aheadOf stepFrom
+step-stopped b t used [] e = step-ended (recordsLeft t) b t used [] refl ∙ ap (reached b t used) (stops-is e)
+step-stopped b t used (x ∷ s) {stop} e =
+    go (leb 1000000 (t .records)) refl (ltb (length s) x) refl (ltb (length (b .bytes) - b .next) 128) refl (hasRoom t 255) refl e
+  where
+    go : (limit : Bool) → leb 1000000 (t .records) ≡ limit → (cut : Bool) → ltb (length s) x ≡ cut → (short : Bool) → ltb (length (b .bytes) - b .next) 128 ≡ short
+        → (fits : Bool) → hasRoom t 255 ≡ fits
+        → cond limit (StopsBy AtLimit) (cond cut (StopsBy AtCut) (cond short (StopsBy NoRoom) (cond fits (Frame x) (StopsBy TotalsFull)))) ≡ StopsBy stop
+        → stepFrom (recordsLeft t) b t used (x ∷ s) ≡ reached b t used stop
+    go true l cut c short r fits f e = rw (none-left t (leb-true _ _ l), front-some x s AtEnd AtLimit) (ap (reached b t used) (stops-is e))
+    go false l true c short r fits f e = rw (one-left t (leb-false _ _ l), front-cut x s (ltb-true _ _ c)) (ap (reached b t used) (stops-is e))
+    go false l false c true r fits f e =
+        rw (one-left t (leb-false _ _ l), front-whole x s (ltb-false _ _ c), lt-leb 128 (length (b .bytes) - b .next) (ltb-true _ _ r)) (ap (reached b t used) (stops-is e))
+    go false l false c false r true f e = absurd (stops-not (sym e))
+    go false l false c false r false f e =
+        rw (one-left t (leb-false _ _ l), front-whole x s (ltb-false _ _ c), le-leb 128 (length (b .bytes) - b .next) (ltb-false _ _ r), f)
+        (ap (reached b t used) (stops-is e))
+
+-- what is known where a record is to be listed
+pub record Lists (s : List ℕ) (space : ℕ) (t : Totals) (size : ℕ) : Type 0 where
+  pub few : t .records < 1000000
+  pub whole : size < length s
+  pub first : getD s 0 0 ≡ size
+  pub line : 128 ≤ space
+  pub counts : hasRoom t 255 ≡ true
+
+pub frame-ahead : (s : List ℕ) (space : ℕ) (t : Totals) {size : ℕ} → aheadOf s space t ≡ Frame size → Lists s space t size
+unfolding aheadOf
+frame-ahead [] space t e = absurd (stops-not e)
+frame-ahead (x ∷ s) space t {size} e = go (leb 1000000 (t .records)) refl (ltb (length s) x) refl (ltb space 128) refl (hasRoom t 255) refl e
+  where
+    go : (limit : Bool) → leb 1000000 (t .records) ≡ limit → (cut : Bool) → ltb (length s) x ≡ cut → (short : Bool) → ltb space 128 ≡ short → (fits : Bool) → hasRoom t 255 ≡ fits
+        → cond limit (StopsBy AtLimit) (cond cut (StopsBy AtCut) (cond short (StopsBy NoRoom) (cond fits (Frame x) (StopsBy TotalsFull)))) ≡ Frame size
+        → Lists (x ∷ s) space t size
+    go true l cut c short r fits f e = absurd (stops-not e)
+    go false l true c short r fits f e = absurd (stops-not e)
+    go false l false c true r fits f e = absurd (stops-not e)
+    go false l false c false r true f e = record {
+      few = leb-false _ _ l;
+      whole = let h : x ≤ length s = ltb-false _ _ c in let q = frame-is e in omega arith;
+      first = frame-is e;
+      line = ltb-false _ _ r;
+      counts = f;
+    }
+    go false l false c false r false f e = absurd (stops-not e)
+
+-- totals that have room for 255 blocks have room for those of a frame
+pub counted-frame : (t : Totals) (frame : List ℕ) → hasRoom t 255 ≡ true
+    → countedWithin t (isAccepted (readFrame frame)) (blocksIn (readFrame frame)) ≡ countedAs t (readFrame frame)
+unfolding hasRoom
+counted-frame t frame h =
+    let most = room t 255 h in
+    let few = blocks-few frame in
+    let sum : t .blocks + blocksIn (readFrame frame) < 2 ^ 64 = omega (arith, most .sum, few) in
+    counted-with-room t (blocksIn (readFrame frame)) (isAccepted (readFrame frame))
+    (and-both (lt-ltb _ _ (most .records)) (and-both (lt-ltb _ _ (most .accepted)) (and-both (lt-ltb _ _ (most .refused)) (lt-ltb _ _ sum))))
+
+counted-records : (t : Totals) (accepted : Bool) (blocks : ℕ) → 1000000 - counted t accepted blocks .records ≡ 1000000 - (t .records + 1)
+counted-records t true blocks = refl
+counted-records t false blocks = refl
+
+-- one more record
+listed-next : (b : Buffer) (t : Totals) (used x : ℕ) (s : List ℕ) → Lists (x ∷ s) (length (b .bytes) - b .next) t x
+    → stepFrom (recordsLeft t) b t used (x ∷ s)
+    ≡ stepFrom (recordsLeft (countedAs t (readFrame (take x s)))) (put b (recordLine (t .records + 1) (readFrame (take x s)))) (countedAs t (readFrame (take x s)))
+    (used + (x + 1)) (drop x s)
+unfolding stepFrom
+listed-next b t used x s l =
+    let long : x ≤ length s = (let h = l .whole in omega arith) in
+    let behind : suc (length (take x s)) ≡ x + 1 = ap suc (length-take-le x s long) ∙ sym (add-one x) in
+    let left = counted-records t (isAccepted (readFrame (take x s))) (blocksIn (readFrame (take x s))) in
+    rw (one-left t (l .few), front-whole x s long, le-leb 128 (length (b .bytes) - b .next) (l .line), l .counts, left, behind)
+
+pub step-listed : (b : Buffer) (t : Totals) (used : ℕ) (s : List ℕ) (size : ℕ) {c : Buffer} {u : Totals} → Lists s (length (b .bytes) - b .next) t size
+    → c ≡ put b (recordLine (t .records + 1) (readFrame (take size (drop 1 s))))
+    → u ≡ countedWithin t (isAccepted (readFrame (take size (drop 1 s)))) (blocksIn (readFrame (take size (drop 1 s))))
+    → stepFrom (recordsLeft t) b t used s ≡ stepFrom (recordsLeft u) c u (used + (size + 1)) (drop (size + 1) s)
+step-listed b t used [] size l e q = absurd (let h = l .whole in omega arith)
+step-listed b t used (x ∷ s) size {c} {u} l e q = at-size size (l .first) l e q
+  where
+    at-size : (n : ℕ) → x ≡ n → Lists (x ∷ s) (length (b .bytes) - b .next) t n → c ≡ put b (recordLine (t .records + 1) (readFrame (take n s)))
+        → u ≡ countedWithin t (isAccepted (readFrame (take n s))) (blocksIn (readFrame (take n s)))
+        → stepFrom (recordsLeft t) b t used (x ∷ s) ≡ stepFrom (recordsLeft u) c u (used + (n + 1)) (drop (n + 1) (x ∷ s))
+    at-size n is l e q =
+        subst (λ (k : ℕ). Lists (x ∷ s) (length (b .bytes) - b .next) t k → c ≡ put b (recordLine (t .records + 1) (readFrame (take k s)))
+        → u ≡ countedWithin t (isAccepted (readFrame (take k s))) (blocksIn (readFrame (take k s)))
+        → stepFrom (recordsLeft t) b t used (x ∷ s) ≡ stepFrom (recordsLeft u) c u (used + (k + 1)) (drop (k + 1) (x ∷ s))) is
+        (λ l e q. listed-next b t used x s l ∙ sym (turned l e q)) l e q
+      where
+        turned : Lists (x ∷ s) (length (b .bytes) - b .next) t x → c ≡ put b (recordLine (t .records + 1) (readFrame (take x s)))
+            → u ≡ countedWithin t (isAccepted (readFrame (take x s))) (blocksIn (readFrame (take x s)))
+            → stepFrom (recordsLeft u) c u (used + (x + 1)) (drop (x + 1) (x ∷ s))
+            ≡ stepFrom (recordsLeft (countedAs t (readFrame (take x s)))) (put b (recordLine (t .records + 1) (readFrame (take x s)))) (countedAs t (readFrame (take x s)))
+            (used + (x + 1)) (drop x s)
+        turned l e q =
+            let after : u ≡ countedAs t (readFrame (take x s)) = q ∙ counted-frame t (take x s) (l .counts) in
+            let rest : drop (x + 1) (x ∷ s) ≡ drop x s = ap (λ (k : ℕ). drop k (x ∷ s)) (add-one x) in
+            ap (λ (l : List ℕ). stepFrom (recordsLeft u) c u (used + (x + 1)) l) rest
+            ∙ ap (λ (d : Buffer). stepFrom (recordsLeft u) d u (used + (x + 1)) (drop x s)) e
+            ∙ ap (λ (v : Totals). stepFrom (recordsLeft v) (put b (recordLine (t .records + 1) (readFrame (take x s)))) v (used + (x + 1)) (drop x s)) after
+
+-- the rest of a piece
+pub rest-is : (piece : List ℕ) (used : ℕ) → used < length piece → take (length piece - used) (drop used piece) ≡ drop used piece
+rest-is piece used h = take-all (length piece - used) (drop used piece) (rw (length-drop used piece) (omega arith))
+
+pub frame-inside : (piece : List ℕ) (used space : ℕ) (t : Totals) {size : ℕ} → used < length piece
+    → aheadOf (take (length piece - used) (drop used piece)) space t ≡ Frame size → used + (size + 1) ≤ length piece
+frame-inside piece used space t h e =
+    let whole = frame-ahead _ space t e .whole in
+    let long = ap length (rest-is piece used h) ∙ length-drop used piece in
+    omega (arith, whole, long, h)
+
+-- The loop's invariant is stated of what is left: going on from here gives what the whole step gives. `rest` is the piece from `used` on, `space` the buffer's room.
+module _ (piece : List ℕ) (b : Buffer) (t : Totals) (used : ℕ) {all : Reached} where
+  pub turn-stopped : (rest : List ℕ) (space : ℕ) {stop : Stop} → rest ≡ drop used piece → space ≡ length (b .bytes) - b .next → aheadOf rest space t ≡ StopsBy stop
+      → stepFrom (recordsLeft t) b t used (drop used piece) ≡ all → reached b t used stop ≡ all
+  turn-stopped rest space is room e inv =
+      sym (step-stopped b t used (drop used piece) (ap (λ (l : List ℕ). aheadOf l (length (b .bytes) - b .next) t) (sym is) ∙ ap (λ (n : ℕ). aheadOf rest n t) (sym room) ∙ e)) ∙ inv
+
+  pub turn-listed : (rest frame : List ℕ) (space size : ℕ) {c : Buffer} {u : Totals} {accepted : Bool} {blocks : ℕ} → rest ≡ drop used piece
+      → frame ≡ take size (drop 1 rest) → space ≡ length (b .bytes) - b .next → aheadOf rest space t ≡ Frame size
+      → c ≡ put b (recordLine (t .records + 1) (readFrame frame)) → accepted ≡ isAccepted (readFrame frame) → blocks ≡ blocksIn (readFrame frame)
+      → u ≡ countedWithin t accepted blocks → stepFrom (recordsLeft t) b t used (drop used piece) ≡ all
+      → stepFrom (recordsLeft u) c u (used + (size + 1)) (drop (used + (size + 1)) piece) ≡ all
+  turn-listed rest frame space size {c} {u} is cut room e line acc blk count inv =
+      let lists = subst (λ (l : List ℕ). Lists l (length (b .bytes) - b .next) t size) is (subst (λ (n : ℕ). Lists rest n t size) room (frame-ahead rest space t e)) in
+      let here : frame ≡ take size (drop 1 (drop used piece)) = cut ∙ ap (λ (l : List ℕ). take size (drop 1 l)) is in
+      let text = line ∙ ap (λ (f : List ℕ). put b (recordLine (t .records + 1) (readFrame f))) here in
+      let counts : u ≡ countedWithin t (isAccepted (readFrame (take size (drop 1 (drop used piece))))) (blocksIn (readFrame (take size (drop 1 (drop used piece))))) = count ∙ rw (acc, blk, here) in
+      ap (λ (l : List ℕ). stepFrom (recordsLeft u) c u (used + (size + 1)) l) (sym (drop-drop (size + 1) used piece))
+      ∙ sym (step-listed b t used (drop used piece) size lists text counts) ∙ inv
