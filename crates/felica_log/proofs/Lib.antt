@@ -1,2 +1,4 @@
+pub mod Came
 pub mod Front
+pub mod Rules
 pub mod Turn

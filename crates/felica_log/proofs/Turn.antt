@@ -44,13 +44,13 @@ unfolding aheadOf
 ahead-some [] space t some = absurd (some refl)
 ahead-some (x ∷ s) space t some = let n : suc (length s) - 1 ≡ length s = omega arith in rw n
 
-stops-is : {a b : Stop} → StopsBy a ≡ StopsBy b → a ≡ b
+pub stops-is : {a b : Stop} → StopsBy a ≡ StopsBy b → a ≡ b
 stops-is e = cc
 
 frame-is : {a b : ℕ} → Frame a ≡ Frame b → a ≡ b
 frame-is e = cc
 
-stops-not : {a : Stop} {size : ℕ} → StopsBy a ≡ Frame size → ⊥
+pub stops-not : {a : Stop} {size : ℕ} → StopsBy a ≡ Frame size → ⊥
 stops-not e = let z : _≡_ {A = ℕ} 0 1 = cc in omega arith
 
 -- the step stops where `aheadOf` says so
@@ -119,7 +119,7 @@ counted-frame t frame h =
     counted-with-room t (blocksIn (readFrame frame)) (isAccepted (readFrame frame))
     (and-both (lt-ltb _ _ (most .records)) (and-both (lt-ltb _ _ (most .accepted)) (and-both (lt-ltb _ _ (most .refused)) (lt-ltb _ _ sum))))
 
-counted-records : (t : Totals) (accepted : Bool) (blocks : ℕ) → 1000000 - counted t accepted blocks .records ≡ 1000000 - (t .records + 1)
+pub counted-records : (t : Totals) (accepted : Bool) (blocks : ℕ) → 1000000 - counted t accepted blocks .records ≡ 1000000 - (t .records + 1)
 counted-records t true blocks = refl
 counted-records t false blocks = refl
 

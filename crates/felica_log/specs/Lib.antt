@@ -1,4 +1,5 @@
 -- Logs: Listing says what the listing of a log is, Step how far a step over a piece of a log comes, Rules what follows from both.
 pub mod Listing
 pub mod Step
+pub mod Rules
 pub mod Ahead

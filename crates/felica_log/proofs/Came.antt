@@ -1,0 +1,175 @@
+-- How a step came where it stopped: the text that it put, the bytes that it listed, and what holds there. One induction over the records that may be read.
+-- Assumes nothing.
+use Prim.Native.Nat.{ℕ, zero, suc, _+_, _-_, _*_, _≤_, _<_}
+use native.Mathlib.Numerals.{add-one}
+use native.Mathlib.Omega.{arith}
+use mathlib.Core.Path.{_≡_, refl, sym, ap, _∙_, subst}
+use mathlib.Core.Logic.{_⊎_, inl, inr}
+use mathlib.Core.Bool.{Bool, true, false, cond}
+use mathlib.Core.List.{List, [], _∷_, _++_, append-assoc, append-nil}
+use lib.Dec.{ltb, leb}
+use lib.ListN.{length, take, drop, length-append}
+use lib.Seq.{take-append-le, drop-append-le, drop-drop}
+use borrow.Author.Tests.{ltb-true, ltb-false, leb-true, leb-false, lt-leb}
+use Rattle.felica_format.specs.Read.{readFrame}
+use Rattle.felica_put.specs.Put.{Buffer, put}
+use Rattle.felica_put.proofs.Laws.{put-append, put-room, kept}
+use Rattle.felica_totals.specs.declared.Totals.{Totals}
+use Rattle.felica_totals.specs.Count.{counted, hasRoom}
+use Rattle.felica_line.specs.Line.{recordLine, isAccepted, blocksIn}
+use Rattle.felica_line.proofs.Bounds.{blocks-few, line-length}
+use Rattle.felica_log.specs.declared.Stop.{Stop}
+use Rattle.felica_log.specs.declared.Stop.the-variants.{AtEnd, AtLimit, AtCut, NoRoom, TotalsFull}
+use Rattle.felica_log.specs.declared.ahead.Ahead.{Ahead}
+use Rattle.felica_log.specs.declared.ahead.Ahead.the-variants.{Frame, Stop as StopsBy}
+use Rattle.felica_log.specs.Listing.{front, countedAs, recordsLeft, listingFrom}
+use Rattle.felica_log.specs.Step.{Reached, reached, stepFrom}
+use Rattle.felica_log.specs.Rules.{Stopped, Sound}
+use Rattle.felica_log.specs.Ahead.{aheadOf}
+use Rattle.felica_log.proofs.Front.{front-whole, front-cut, one-left}
+use Rattle.felica_log.proofs.Turn.{stops-is, stops-not, Lists, frame-ahead, counted-frame, counted-records, step-stopped, step-listed}
+
+-- what a stop says of the rest
+ahead-stops : (b : Buffer) (t : Totals) (s : List ℕ) {stop : Stop} → aheadOf s (length (b .bytes) - b .next) t ≡ StopsBy stop → Stopped stop b t s
+unfolding aheadOf
+ahead-stops b t [] e = subst (λ (z : Stop). Stopped z b t []) (stops-is e) refl
+ahead-stops b t (x ∷ s) {stop} e =
+    go (leb 1000000 (t .records)) refl (ltb (length s) x) refl (ltb (length (b .bytes) - b .next) 128) refl (hasRoom t 255) refl e
+  where
+    is : {z : Stop} → StopsBy z ≡ StopsBy stop → Stopped z b t (x ∷ s) → Stopped stop b t (x ∷ s)
+    is e holds = subst (λ (z : Stop). Stopped z b t (x ∷ s)) (stops-is e) holds
+
+    go : (limit : Bool) → leb 1000000 (t .records) ≡ limit → (cut : Bool) → ltb (length s) x ≡ cut → (short : Bool) → ltb (length (b .bytes) - b .next) 128 ≡ short
+        → (fits : Bool) → hasRoom t 255 ≡ fits
+        → cond limit (StopsBy AtLimit) (cond cut (StopsBy AtCut) (cond short (StopsBy NoRoom) (cond fits (Frame x) (StopsBy TotalsFull)))) ≡ StopsBy stop
+        → Stopped stop b t (x ∷ s)
+    go true l cut c short r fits f e = is e (leb-true _ _ l, λ q. let z = ap length q in omega arith)
+    go false l true c short r fits f e = is e (leb-false _ _ l, (x - length s, front-cut x s (ltb-true _ _ c)))
+    go false l false c true r fits f e = is e (lt-leb 128 (length (b .bytes) - b .next) (ltb-true _ _ r))
+    go false l false c false r true f e = absurd (stops-not (sym e))
+    go false l false c false r false f e = is e f
+
+-- one more record in the listing of any log that goes on with s
+listing-next : (t : Totals) (s behind : List ℕ) (space size : ℕ) → Lists s space t size
+    → listingFrom (recordsLeft t) t (s ++ behind)
+    ≡ recordLine (t .records + 1) (readFrame (take size (drop 1 s)))
+    ++ listingFrom (recordsLeft (countedAs t (readFrame (take size (drop 1 s))))) (countedAs t (readFrame (take size (drop 1 s)))) (drop (size + 1) s ++ behind)
+unfolding listingFrom
+listing-next t [] behind space size l = absurd (let h = l .whole in omega arith)
+listing-next t (x ∷ s) behind space size l =
+    subst (λ (n : ℕ). listingFrom (recordsLeft t) t ((x ∷ s) ++ behind)
+    ≡ recordLine (t .records + 1) (readFrame (take n s))
+    ++ listingFrom (recordsLeft (countedAs t (readFrame (take n s)))) (countedAs t (readFrame (take n s))) (drop (n + 1) (x ∷ s) ++ behind)) (l .first) here
+  where
+    long : x ≤ length s
+    long = let h = l .whole in let q : x ≡ size = l .first in omega arith
+
+    more : x ≤ length (s ++ behind)
+    more = rw (length-append s behind) (let h = long in omega arith)
+
+    here : listingFrom (recordsLeft t) t ((x ∷ s) ++ behind)
+        ≡ recordLine (t .records + 1) (readFrame (take x s))
+        ++ listingFrom (recordsLeft (countedAs t (readFrame (take x s)))) (countedAs t (readFrame (take x s))) (drop (x + 1) (x ∷ s) ++ behind)
+    here =
+        rw (
+          one-left t (l .few),
+          front-whole x (s ++ behind) more,
+          take-append-le x s behind long,
+          drop-append-le x s behind long,
+          counted-records t (isAccepted (readFrame (take x s))) (blocksIn (readFrame (take x s))),
+          add-one x,
+        )
+
+counted-sound : (t : Totals) (frame : List ℕ) → t .records < 1000000 → Sound t → Sound (countedAs t (readFrame frame))
+counted-sound t frame few s = go (isAccepted (readFrame frame)) (blocksIn (readFrame frame)) (blocks-few frame)
+  where
+    go : (accepted : Bool) (blocks : ℕ) → blocks ≤ 255 → Sound (counted t accepted blocks)
+    go true blocks h = record {
+      records = omega (arith, few);
+      accepted = omega (arith, s .accepted);
+      refused = omega (arith, s .refused);
+      blocks = omega (arith, s .blocks, h);
+    }
+    go false blocks h = record {
+      records = omega (arith, few);
+      accepted = omega (arith, s .accepted);
+      refused = omega (arith, s .refused);
+      blocks = omega (arith, s .blocks);
+    }
+
+pub record Came (b : Buffer) (t : Totals) (used : ℕ) (s : List ℕ) (r : Reached) : Type 0 where
+  pub text : List ℕ
+  pub far : ℕ
+  pub puts : r .out ≡ put b text
+  pub room : (b .next + length text ≤ length (b .bytes)) ⊎ (text ≡ [])
+  pub uses : r .used ≡ used + far
+  pub lists : (behind : List ℕ) → listingFrom (recordsLeft t) t (s ++ behind) ≡ text ++ listingFrom (recordsLeft (r .totals)) (r .totals) (drop far s ++ behind)
+  pub stopped : Stopped (r .stop) (r .out) (r .totals) (drop far s)
+  pub sound : Sound t → Sound (r .totals)
+
+stays : (b : Buffer) (t : Totals) (used : ℕ) (s : List ℕ) {stop : Stop} → aheadOf s (length (b .bytes) - b .next) t ≡ StopsBy stop → Came b t used s (reached b t used stop)
+unfolding put
+stays b t used s e = record {
+  text = [];
+  far = 0;
+  puts = refl;
+  room = inr refl;
+  uses = omega arith;
+  lists = λ behind. refl;
+  stopped = ahead-stops b t s e;
+  sound = λ h. h;
+}
+
+-- the room for a line and for what a step puts behind it
+room-both : (b : Buffer) (line text : List ℕ) → length line ≤ 128 → 128 ≤ length (b .bytes) - b .next
+    → (put b line .next + length text ≤ length (put b line .bytes)) ⊎ (text ≡ []) → b .next + length (line ++ text) ≤ length (b .bytes)
+room-both b line text short space (inl h) =
+    let fits : b .next + length line ≤ length (b .bytes) = omega arith in
+    let next : put b line .next ≡ b .next + length line = ap (λ (x : Buffer). x .next) (put-room line (b .bytes) (b .next) fits) in
+    let long : length (put b line .bytes) ≡ length (b .bytes) = kept b line .long in
+    rw (length-append line text) (omega (arith, h, next, long))
+room-both b line text short space (inr e) = rw (e, append-nil line) (omega arith)
+
+-- one more record, and what came behind it
+goes : (b : Buffer) (t : Totals) (used : ℕ) (s : List ℕ) (size : ℕ) {r : Reached} → Lists s (length (b .bytes) - b .next) t size
+    → Came (put b (recordLine (t .records + 1) (readFrame (take size (drop 1 s))))) (countedAs t (readFrame (take size (drop 1 s)))) (used + (size + 1)) (drop (size + 1) s) r
+    → Came b t used s r
+goes b t used s size {r} l rest =
+    let frame = take size (drop 1 s) in
+    let line = recordLine (t .records + 1) (readFrame frame) in
+    let few = l .few in
+    let there = drop-drop (rest .far) (size + 1) s in
+    record {
+      text = line ++ rest .text;
+      far = size + 1 + rest .far;
+      puts = rest .puts ∙ sym (put-append b line (rest .text));
+      room = inl (room-both b line (rest .text) (line-length (t .records + 1) frame (omega (arith, few))) (l .line) (rest .room));
+      uses = rest .uses ∙ omega arith;
+      lists = λ behind.
+          listing-next t s behind _ size l ∙ ap (λ (x : List ℕ). line ++ x) (rest .lists behind ∙ ap (λ (x : List ℕ). rest .text ++ listingFrom (recordsLeft (r .totals)) (r .totals) (x ++ behind)) there)
+          ∙ sym (append-assoc line (rest .text) _);
+      stopped = subst (Stopped (r .stop) (r .out) (r .totals)) there (rest .stopped);
+      sound = λ h. rest .sound (counted-sound t frame few h);
+    }
+
+one-less : (t : Totals) (frame : List ℕ) (n : ℕ) → recordsLeft t ≡ suc n → recordsLeft (countedAs t (readFrame frame)) ≡ n
+one-less t frame n e = counted-records t (isAccepted (readFrame frame)) (blocksIn (readFrame frame)) ∙ omega arith
+
+pub came : (n : ℕ) (b : Buffer) (t : Totals) (used : ℕ) (s : List ℕ) → recordsLeft t ≡ n → Came b t used s (stepFrom (recordsLeft t) b t used s)
+came zero b t used s left = go (aheadOf s (length (b .bytes) - b .next) t) refl
+  where
+    go : (a : Ahead) → aheadOf s (length (b .bytes) - b .next) t ≡ a → Came b t used s (stepFrom (recordsLeft t) b t used s)
+    go (StopsBy stop) e = subst (Came b t used s) (sym (step-stopped b t used s e)) (stays b t used s e)
+    go (Frame size) e = let few = frame-ahead s (length (b .bytes) - b .next) t e .few in absurd (omega arith)
+came (suc n) b t used s left = go (aheadOf s (length (b .bytes) - b .next) t) refl (λ c u k l. came n c u k l)
+  where
+    go : (a : Ahead) → aheadOf s (length (b .bytes) - b .next) t ≡ a
+        → ((c : Buffer) (u : Totals) (k : ℕ) (l : List ℕ) → recordsLeft u ≡ n → Came c u k l (stepFrom (recordsLeft u) c u k l))
+        → Came b t used s (stepFrom (recordsLeft t) b t used s)
+    go (StopsBy stop) e later = subst (Came b t used s) (sym (step-stopped b t used s e)) (stays b t used s e)
+    go (Frame size) e later =
+        let l = frame-ahead s (length (b .bytes) - b .next) t e in
+        let frame = take size (drop 1 s) in
+        let u = countedAs t (readFrame frame) in
+        subst (Came b t used s) (sym (step-listed b t used s size l refl (sym (counted-frame t frame (l .counts)))))
+        (goes b t used s size l (later (put b (recordLine (t .records + 1) (readFrame frame))) u (used + (size + 1)) (drop (size + 1) s) (one-less t frame n left)))

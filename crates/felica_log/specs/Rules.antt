@@ -1,0 +1,101 @@
+-- What follows from the definitions of listing and step, as statements. Each is proved under its name in proofs/Rules.antt.
+-- Assumes nothing.
+use Prim.Native.Nat.{ℕ, _+_, _-_, _*_, _≤_, _<_}
+use mathlib.Core.Path.{_≡_}
+use mathlib.Core.Bool.{true, false}
+use mathlib.Core.List.{List, [], _∷_, _++_}
+use lib.ListN.{length, take, drop}
+use Rattle.felica_put.specs.Put.{Buffer}
+use Rattle.felica_totals.specs.declared.Totals.{Totals}
+use Rattle.felica_totals.specs.Count.{noTotals, hasRoom}
+use Rattle.felica_log.specs.declared.Stop.{Stop}
+use Rattle.felica_log.specs.declared.Stop.the-variants.{AtEnd, AtLimit, AtCut, NoRoom, TotalsFull}
+use Rattle.felica_log.specs.Listing.{cutBy, frameThen, front, recordsLeft, listingFrom, listing}
+use Rattle.felica_log.specs.Step.{Reached, roomForLine, step, endText}
+
+-- the bytes that a step has put behind those that the buffer held
+abbrev pub lines : Buffer → Reached → List ℕ
+lines b r = take (r .out .next - b .next) (drop (b .next) (r .out .bytes))
+
+-- A step lists the front of the listing of any log that goes on with the piece, none of its lines cut off; the rest of that listing begins where the step stopped.
+abbrev pub StepLists : Type 0
+StepLists = (b : Buffer) (t : Totals) (piece behind : List ℕ)
+    → listingFrom (recordsLeft t) t (piece ++ behind)
+    ≡ lines b (step b t piece) ++ listingFrom (recordsLeft (step b t piece .totals)) (step b t piece .totals) (drop (step b t piece .used) piece ++ behind)
+
+-- All other bytes of the buffer keep their values.
+abbrev pub StepKeeps : Type 0
+StepKeeps = (b : Buffer) (t : Totals) (piece : List ℕ)
+    → (take (b .next) (step b t piece .out .bytes) ≡ take (b .next) (b .bytes))
+    × (drop (step b t piece .out .next) (step b t piece .out .bytes) ≡ drop (step b t piece .out .next) (b .bytes))
+
+-- What holds in front of the rest of the piece where a step stops. In front of a whole record it never stops while there is room.
+abbrev pub Stopped : Stop → Buffer → Totals → List ℕ → Type 0
+Stopped AtEnd b t rest = rest ≡ []
+Stopped AtLimit b t rest = (1000000 ≤ t .records) × (rest ≡ [] → ⊥)
+Stopped AtCut b t rest = (t .records < 1000000) × ((missing : ℕ) × (front rest ≡ cutBy missing))
+Stopped NoRoom b t rest = roomForLine b ≡ false
+Stopped TotalsFull b t rest = hasRoom t 255 ≡ false
+
+abbrev pub StopsExactly : Type 0
+StopsExactly = (b : Buffer) (t : Totals) (piece : List ℕ)
+    → Stopped (step b t piece .stop) (step b t piece .out) (step b t piece .totals) (drop (step b t piece .used) piece)
+
+-- Totals that records can have made: then they have room for one more.
+pub record Sound (t : Totals) : Type 0 where
+  pub records : t .records ≤ 1000000
+  pub accepted : t .accepted ≤ t .records
+  pub refused : t .refused ≤ t .records
+  pub blocks : t .blocks ≤ 255 * t .records
+
+abbrev pub SoundKept : Type 0
+SoundKept = (b : Buffer) (t : Totals) (piece : List ℕ) → Sound t → Sound (step b t piece .totals)
+
+abbrev pub SoundRoom : Type 0
+SoundRoom = (t : Totals) → Sound t → hasRoom t 255 ≡ true
+
+-- What a program does: it reads one more piece of the log behind what it holds, or makes a step over what it holds, into some buffer, and writes the lines.
+pub data Action : Type 0 where
+  reads : List ℕ → Action
+  steps : Buffer → Action
+
+pub record State : Type 0 where
+  pub written : List ℕ
+  pub totals : Totals
+  pub held : List ℕ
+
+abbrev pub state : List ℕ → Totals → List ℕ → State
+state written totals held = record { written = written; totals = totals; held = held }
+
+abbrev pub stepped : State → Buffer → Reached → State
+stepped s b r = state (s .written ++ lines b r) (r .totals) (drop (r .used) (s .held))
+
+abbrev pub act : State → Action → State
+act s (reads piece) = state (s .written) (s .totals) (s .held ++ piece)
+act s (steps b) = stepped s b (step b (s .totals) (s .held))
+
+-- the actions are in order, the last first
+abbrev pub after : List Action → State
+after [] = state [] noTotals []
+after (a ∷ before) = act (after before) a
+
+abbrev pub allRead : List Action → List ℕ
+allRead [] = []
+allRead (reads piece ∷ before) = allRead before ++ piece
+allRead (steps b ∷ before) = allRead before
+
+-- Whatever the pieces and the buffers are: what is written is the front of the listing of the log, and the rest of it is that of what is held and what follows.
+abbrev pub PiecesListed : Type 0
+PiecesListed = (actions : List Action) (behind : List ℕ)
+    → listing (allRead actions ++ behind)
+    ≡ after actions .written ++ listingFrom (recordsLeft (after actions .totals)) (after actions .totals) (after actions .held ++ behind)
+
+-- Where no whole record is left to be read, the lines behind the records complete the listing of what was read.
+abbrev pub EndListed : Type 0
+EndListed = (actions : List Action) → ((frame rest : List ℕ) → front (after actions .held) ≡ frameThen frame rest → 1000000 ≤ after actions .totals .records)
+    → listing (allRead actions) ≡ after actions .written ++ endText (after actions .totals) (after actions .held)
+
+-- "After 1,000,000 records reading stops, with the line FULL if a byte follows": whatever else follows it.
+abbrev pub FullListed : Type 0
+FullListed = (actions : List Action) (behind : List ℕ) → 1000000 ≤ after actions .totals .records → (after actions .held ≡ [] → ⊥)
+    → listing (allRead actions ++ behind) ≡ after actions .written ++ endText (after actions .totals) (after actions .held)

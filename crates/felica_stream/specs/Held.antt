@@ -1,0 +1,12 @@
+-- Input that is held from one read to the next.
+-- Assumes nothing.
+use Prim.Native.Nat.{ℕ, _-_}
+use mathlib.Core.Bool.{cond}
+use mathlib.Core.List.{List}
+use lib.Dec.{leb}
+use lib.ListN.{length, drop}
+use lib.Seq.{paste}
+
+-- the bytes from one place to another at the front, and all else as it was; nothing moves where the bytes end before that
+unfoldable pub moved : List ℕ → ℕ → ℕ → List ℕ
+moved s from end = cond (leb end (length s)) (paste s 0 (drop from s) (end - from)) s

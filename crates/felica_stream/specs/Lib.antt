@@ -1,0 +1,2 @@
+-- Input that is held from one read to the next.
+pub mod Held
