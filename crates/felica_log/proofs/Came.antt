@@ -8,7 +8,7 @@ use mathlib.Core.Logic.{_⊎_, inl, inr}
 use mathlib.Core.Bool.{Bool, true, false, cond}
 use mathlib.Core.List.{List, [], _∷_, _++_, append-assoc, append-nil}
 use lib.Dec.{ltb, leb}
-use lib.ListN.{length, take, drop, length-append}
+use lib.ListN.{length, take, drop, length-append, length-drop}
 use lib.Seq.{take-append-le, drop-append-le, drop-drop}
 use borrow.Author.Tests.{ltb-true, ltb-false, leb-true, leb-false, lt-leb}
 use Rattle.felica_format.specs.Read.{readFrame}
@@ -103,6 +103,8 @@ pub record Came (b : Buffer) (t : Totals) (used : ℕ) (s : List ℕ) (r : Reach
   pub puts : r .out ≡ put b text
   pub room : (b .next + length text ≤ length (b .bytes)) ⊎ (text ≡ [])
   pub uses : r .used ≡ used + far
+  pub inside : far ≤ length s
+  pub still : far ≡ 0 → r .out ≡ b
   pub lists : (behind : List ℕ) → listingFrom (recordsLeft t) t (s ++ behind) ≡ text ++ listingFrom (recordsLeft (r .totals)) (r .totals) (drop far s ++ behind)
   pub stopped : Stopped (r .stop) (r .out) (r .totals) (drop far s)
   pub sound : Sound t → Sound (r .totals)
@@ -115,6 +117,8 @@ stays b t used s e = record {
   puts = refl;
   room = inr refl;
   uses = omega arith;
+  inside = omega arith;
+  still = λ e. refl;
   lists = λ behind. refl;
   stopped = ahead-stops b t s e;
   sound = λ h. h;
@@ -145,6 +149,8 @@ goes b t used s size {r} l rest =
       puts = rest .puts ∙ sym (put-append b line (rest .text));
       room = inl (room-both b line (rest .text) (line-length (t .records + 1) frame (omega (arith, few))) (l .line) (rest .room));
       uses = rest .uses ∙ omega arith;
+      inside = omega (arith, rest .inside, length-drop (size + 1) s, l .whole);
+      still = λ e. absurd (omega arith);
       lists = λ behind.
           listing-next t s behind _ size l ∙ ap (λ (x : List ℕ). line ++ x) (rest .lists behind ∙ ap (λ (x : List ℕ). rest .text ++ listingFrom (recordsLeft (r .totals)) (r .totals) (x ++ behind)) there)
           ∙ sym (append-assoc line (rest .text) _);

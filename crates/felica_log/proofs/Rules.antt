@@ -4,24 +4,28 @@ use Prim.Native.Nat.{ℕ, zero, suc, _+_, _-_, _*_, _≤_, _<_, _^_}
 use native.Mathlib.Omega.{arith}
 use mathlib.Core.Path.{_≡_, refl, sym, ap, _∙_, subst}
 use mathlib.Core.Logic.{_⊎_, inl, inr}
-use mathlib.Core.Bool.{Bool, true, false, cond}
+use mathlib.Core.Bool.{Bool, true, false, cond, true≢false}
 use mathlib.Core.List.{List, [], _∷_, _++_, append-assoc, append-nil}
 use lib.Dec.{leb}
 use lib.ListN.{length, take, drop, length-append}
 use lib.Seq.{length-take-le, take-all, take-append-le, take-append-seam, drop-append-seam}
-use borrow.Author.Tests.{lt-ltb, leb-true, leb-false}
+use borrow.Author.Tests.{lt-ltb, ltb-true}
 use Rattle.felica_format.specs.Read.{readFrame}
-use Rattle.felica_format.proofs.Tests.{and-both}
+use Rattle.felica_format.specs.Basic.{Bytes}
+use Rattle.felica_format.proofs.Tests.{and-left, and-both}
 use Rattle.felica_put.specs.Put.{Buffer, buffer, put}
 use Rattle.felica_put.proofs.Laws.{put-room, kept}
 use Rattle.felica_totals.specs.declared.Totals.{Totals}
 use Rattle.felica_totals.specs.Count.{noTotals, hasRoom}
+use Rattle.felica_text.proofs.Text.{decimal-length}
 use Rattle.felica_line.specs.Line.{recordLine}
 use Rattle.felica_log.specs.Listing.{Front, nothing, cutBy, frameThen, front, atFront, cutLine, totalLine, countedAs, recordsLeft}
 use Rattle.felica_log.specs.Listing.{listingFrom, listing}
-use Rattle.felica_log.specs.Step.{Reached, step, endText}
-use Rattle.felica_log.specs.Rules.{lines, StepLists, StepKeeps, Stopped, StopsExactly, Sound, SoundKept, SoundRoom, Action, reads, steps}
-use Rattle.felica_log.specs.Rules.{after, allRead, PiecesListed, EndListed, FullListed}
+use Rattle.felica_log.specs.declared.Stop.{Stop}
+use Rattle.felica_log.specs.declared.Stop.the-variants.{AtEnd, AtLimit, AtCut, NoRoom, TotalsFull}
+use Rattle.felica_log.specs.Step.{Reached, roomForLine, step, restLine, endText}
+use Rattle.felica_log.specs.Rules.{lines, StepLists, StepKeeps, StepInside, Stopped, StopsExactly, Sound, SoundKept, SoundRoom, NoneLeft, NoneBefore, EndFits}
+use Rattle.felica_log.specs.Rules.{reads, steps, after, allRead, PiecesListed, EndListed, FullListed}
 use Rattle.felica_log.proofs.Front.{front-whole, front-cut, none-left}
 use Rattle.felica_log.proofs.Came.{Came, came}
 
@@ -76,6 +80,15 @@ step-keeps b t piece =
       subst (λ (x : Buffer). drop (x .next) (x .bytes) ≡ drop (x .next) (b .bytes)) (sym (c .puts)) (kept b (c .text) .behind (put b (c .text) .next) (omega arith)),
     )
 
+pub step-inside : StepInside
+step-inside b t piece =
+    let c = step-came b t piece in
+    (
+      omega (arith, c .inside, used-far b t piece),
+      λ h. subst (λ (x : Buffer). x .next ≤ length (x .bytes)) (sym (c .puts)) (kept b (c .text) .within h),
+      λ e. c .still (sym (used-far b t piece) ∙ e),
+    )
+
 pub stops-exactly : StopsExactly
 stops-exactly b t piece =
     subst (λ (n : ℕ). Stopped (step b t piece .stop) (step b t piece .out) (step b t piece .totals) (drop n piece)) (sym (used-far b t piece)) (step-came b t piece .stopped)
@@ -91,6 +104,51 @@ sound-room t s =
     (and-both (lt-ltb (t .refused + 1) (2 ^ 64) (omega (arith, s .records, s .refused)))
     (lt-ltb (t .blocks + 255) (2 ^ 64) (omega (arith, s .records, s .blocks)))))
 
+nothing-whole : {frame rest : List ℕ} → nothing ≡ frameThen frame rest → ⊥
+nothing-whole e = let z : _≡_ {A = ℕ} 0 1 = cc in omega arith
+
+cut-whole : {missing : ℕ} {frame rest : List ℕ} → cutBy missing ≡ frameThen frame rest → ⊥
+cut-whole e = let z : _≡_ {A = ℕ} 0 1 = cc in omega arith
+
+stop-none : (stop : Stop) (b : Buffer) (t : Totals) (rest : List ℕ) → Stopped stop b t rest → roomForLine b ≡ true → hasRoom t 255 ≡ true → NoneLeft t rest
+unfolding front
+stop-none AtEnd b t rest none room totals frame r e = absurd (nothing-whole (sym (ap front none) ∙ e))
+stop-none AtLimit b t rest (full, some) room totals frame r e = full
+stop-none AtCut b t rest (few, (missing, cut)) room totals frame r e = absurd (cut-whole (sym cut ∙ e))
+stop-none NoRoom b t rest none room totals frame r e = absurd (true≢false (sym room ∙ none))
+stop-none TotalsFull b t rest none room totals frame r e = absurd (true≢false (sym totals ∙ none))
+
+pub none-before : NoneBefore
+none-before b t piece s room e =
+    let r = step b t piece in
+    subst (λ (n : ℕ). NoneLeft (r .totals) (drop n piece)) e
+    (stop-none (r .stop) (r .out) (r .totals) (drop (r .used) piece) (stops-exactly b t piece) (subst (λ (x : Buffer). roomForLine x ≡ true) (sym (step-inside b t piece .2 e)) room)
+    (sound-room (r .totals) (sound-kept b t piece s)))
+
+cut-length : (missing : ℕ) → missing < 256 → length (cutLine missing) ≤ 8
+cut-length missing h = let digits = decimal-length 2 missing (omega arith) in simp length-append (omega arith)
+
+rest-length : (n : ℕ) (rest : List ℕ) → Bytes rest → length (restLine n rest) ≤ 8
+unfolding front
+rest-length zero [] small = omega arith
+rest-length zero (x ∷ s) small = omega arith
+rest-length (suc n) [] small = omega arith
+rest-length (suc n) (x ∷ s) small = go (leb x (length s))
+  where
+    go : (whole : Bool) → length (atFront (cond whole (frameThen (take x s) (drop x s)) (cutBy (x - length s))) [] cutLine (λ frame rest. [])) ≤ 8
+    go true = omega arith
+    go false = let h : x < 256 = ltb-true x 256 (and-left _ _ small) in cut-length (x - length s) (omega arith)
+
+pub end-fits : EndFits
+unfolding endText totalLine
+end-fits t rest s small =
+    let before = rest-length (recordsLeft t) rest small in
+    let records = decimal-length 6 (t .records) (omega (arith, s .records)) in
+    let accepted = decimal-length 6 (t .accepted) (omega (arith, s .records, s .accepted)) in
+    let refused = decimal-length 6 (t .refused) (omega (arith, s .records, s .refused)) in
+    let blocks = decimal-length 8 (t .blocks) (omega (arith, s .records, s .blocks)) in
+    simp length-append (omega arith)
+
 pub pieces-listed : PiecesListed
 unfolding listing
 pieces-listed [] behind = refl
@@ -103,7 +161,7 @@ pieces-listed (steps b ∷ done) behind =
     pieces-listed done behind ∙ ap (λ (x : List ℕ). s .written ++ x) (step-lists b (s .totals) (s .held) behind) ∙ sym (append-assoc (s .written) (lines b (step b (s .totals) (s .held))) _)
 
 -- the lines behind the records, where none is left to be read
-end-listed-from : (t : Totals) (n : ℕ) (s : List ℕ) → recordsLeft t ≡ n → ((frame rest : List ℕ) → front s ≡ frameThen frame rest → 1000000 ≤ t .records)
+end-listed-from : (t : Totals) (n : ℕ) (s : List ℕ) → recordsLeft t ≡ n → NoneLeft t s
     → listingFrom (recordsLeft t) t s ≡ endText t s
 unfolding listingFrom endText
 end-listed-from t zero s left none = rw left

@@ -5,6 +5,7 @@ use mathlib.Core.Path.{_≡_}
 use mathlib.Core.Bool.{true, false}
 use mathlib.Core.List.{List, [], _∷_, _++_}
 use lib.ListN.{length, take, drop}
+use Rattle.felica_format.specs.Basic.{Bytes}
 use Rattle.felica_put.specs.Put.{Buffer}
 use Rattle.felica_totals.specs.declared.Totals.{Totals}
 use Rattle.felica_totals.specs.Count.{noTotals, hasRoom}
@@ -28,6 +29,12 @@ abbrev pub StepKeeps : Type 0
 StepKeeps = (b : Buffer) (t : Totals) (piece : List ℕ)
     → (take (b .next) (step b t piece .out .bytes) ≡ take (b .next) (b .bytes))
     × (drop (step b t piece .out .next) (step b t piece .out .bytes) ≡ drop (step b t piece .out .next) (b .bytes))
+
+-- It uses no more than the piece, stays inside the buffer, and puts nothing where it uses nothing.
+abbrev pub StepInside : Type 0
+StepInside = (b : Buffer) (t : Totals) (piece : List ℕ)
+    → (step b t piece .used ≤ length piece) × (b .next ≤ length (b .bytes) → step b t piece .out .next ≤ length (step b t piece .out .bytes))
+    × (step b t piece .used ≡ 0 → step b t piece .out ≡ b)
 
 -- What holds in front of the rest of the piece where a step stops. In front of a whole record it never stops while there is room.
 abbrev pub Stopped : Stop → Buffer → Totals → List ℕ → Type 0
@@ -53,6 +60,18 @@ SoundKept = (b : Buffer) (t : Totals) (piece : List ℕ) → Sound t → Sound (
 
 abbrev pub SoundRoom : Type 0
 SoundRoom = (t : Totals) → Sound t → hasRoom t 255 ≡ true
+
+-- no whole record that may still be read stands at the front
+abbrev pub NoneLeft : Totals → List ℕ → Type 0
+NoneLeft t s = (frame rest : List ℕ) → front s ≡ frameThen frame rest → 1000000 ≤ t .records
+
+-- A step that has room for a line and uses nothing has no whole record before it.
+abbrev pub NoneBefore : Type 0
+NoneBefore = (b : Buffer) (t : Totals) (piece : List ℕ) → Sound t → roomForLine b ≡ true → step b t piece .used ≡ 0 → NoneLeft (step b t piece .totals) piece
+
+-- The room that a step asks for is enough for the lines behind the records, too.
+abbrev pub EndFits : Type 0
+EndFits = (t : Totals) (rest : List ℕ) → Sound t → Bytes rest → length (endText t rest) ≤ 128
 
 -- What a program does: it reads one more piece of the log behind what it holds, or makes a step over what it holds, into some buffer, and writes the lines.
 pub data Action : Type 0 where
@@ -90,9 +109,9 @@ PiecesListed = (actions : List Action) (behind : List ℕ)
     → listing (allRead actions ++ behind)
     ≡ after actions .written ++ listingFrom (recordsLeft (after actions .totals)) (after actions .totals) (after actions .held ++ behind)
 
--- Where no whole record is left to be read, the lines behind the records complete the listing of what was read.
+-- Where none is left, the lines behind the records complete the listing of what was read.
 abbrev pub EndListed : Type 0
-EndListed = (actions : List Action) → ((frame rest : List ℕ) → front (after actions .held) ≡ frameThen frame rest → 1000000 ≤ after actions .totals .records)
+EndListed = (actions : List Action) → NoneLeft (after actions .totals) (after actions .held)
     → listing (allRead actions) ≡ after actions .written ++ endText (after actions .totals) (after actions .held)
 
 -- "After 1,000,000 records reading stops, with the line FULL if a byte follows": whatever else follows it.
