@@ -24,7 +24,7 @@ use Rattle.felica_log.specs.Listing.{listingFrom, listing}
 use Rattle.felica_log.specs.declared.Stop.{Stop}
 use Rattle.felica_log.specs.declared.Stop.the-variants.{AtEnd, AtLimit, AtCut, NoRoom, TotalsFull}
 use Rattle.felica_log.specs.Step.{Reached, roomForLine, step, restLine, endText}
-use Rattle.felica_log.specs.Rules.{lines, StepLists, StepKeeps, StepInside, Stopped, StopsExactly, Sound, SoundKept, SoundRoom, NoneLeft, NoneBefore, EndFits}
+use Rattle.felica_log.specs.Rules.{lines, StepLists, StepKeeps, StepInside, Stopped, StopsExactly, Sound, SoundStart, SoundKept, SoundRoom, NoneLeft, NoneBefore, EndFits}
 use Rattle.felica_log.specs.Rules.{reads, steps, after, allRead, PiecesListed, EndListed, FullListed}
 use Rattle.felica_log.proofs.Front.{front-whole, front-cut, none-left}
 use Rattle.felica_log.proofs.Came.{Came, came}
@@ -82,8 +82,7 @@ step-keeps b t piece =
 
 pub step-inside : StepInside
 step-inside b t piece =
-    let c = step-came b t piece in
-    (
+    let c = step-came b t piece in (
       omega (arith, c .inside, used-far b t piece),
       λ h. subst (λ (x : Buffer). x .next ≤ length (x .bytes)) (sym (c .puts)) (kept b (c .text) .within h),
       λ e. c .still (sym (used-far b t piece) ∙ e),
@@ -92,6 +91,9 @@ step-inside b t piece =
 pub stops-exactly : StopsExactly
 stops-exactly b t piece =
     subst (λ (n : ℕ). Stopped (step b t piece .stop) (step b t piece .out) (step b t piece .totals) (drop n piece)) (sym (used-far b t piece)) (step-came b t piece .stopped)
+
+pub sound-start : SoundStart
+sound-start = record { records = omega arith; accepted = omega arith; refused = omega arith; blocks = omega arith }
 
 pub sound-kept : SoundKept
 sound-kept b t piece = step-came b t piece .sound

@@ -55,6 +55,9 @@ pub record Sound (t : Totals) : Type 0 where
   pub refused : t .refused ≤ t .records
   pub blocks : t .blocks ≤ 255 * t .records
 
+abbrev pub SoundStart : Type 0
+SoundStart = Sound noTotals
+
 abbrev pub SoundKept : Type 0
 SoundKept = (b : Buffer) (t : Totals) (piece : List ℕ) → Sound t → Sound (step b t piece .totals)
 

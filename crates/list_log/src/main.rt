@@ -1,7 +1,10 @@
 // Lists a log: reads it on standard input, and writes a line for each record to standard output.
 ghost use mathlib.Core.Path.{_≡_};
 ghost use Prim.Native.Nat.{_≤_};
-ghost use lib.ListN.{length};
+ghost use mathlib.Core.Bool.{false};
+ghost use lib.ListN.{length, take};
+ghost use Rattle.felica_log.specs.Rules.{Sound, NoneLeft};
+ghost use Rattle.list_log.specs.Held.{AllListed, RestKept, over};
 use felica_log::LINE_ROOM;
 use felica_log::MAX_RECORDS;
 use felica_log::end::put_end;
@@ -45,8 +48,8 @@ struct State {
 
 // Lists the whole records of what is held. Once there is room for a line, a step that uses nothing has no whole record before it.
 fn list_held(held: &[u8], out: &mut [u8], waiting: usize, totals: Totals) -> Listed
-    requires { ⌜ waiting ≤ length (now out) ⌝ }
-    ensures { λ r. ⌜ (r .used ≤ length (now (held .entry))) × (r .waiting ≤ length (now (out .exit))) ⌝ }
+    requires { ⌜ (waiting ≤ length (now out)) × (128 ≤ length (now out)) × Sound totals ⌝ }
+    ensures { λ r. ⌜ (r .used ≤ length (now (held .entry))) × (r .waiting ≤ length (now (out .exit))) × Sound (r .totals) × (r .failed ≡ false → AllListed totals (now (held .entry)) (r .totals) (r .used)) ⌝ }
 {
     let mut used = 0;
     let mut next = waiting;
@@ -76,8 +79,8 @@ fn list_input(
     waiting: usize,
     totals: Totals,
 ) -> State
-    requires { ⌜ (held ≤ length (now input)) × (waiting ≤ length (now out)) ⌝ }
-    ensures { λ r. ⌜ (r .held ≤ length (now (input .exit))) × (r .waiting ≤ length (now (out .exit))) ⌝ }
+    requires { ⌜ (held ≤ length (now input)) × (waiting ≤ length (now out)) × (128 ≤ length (now out)) × Sound totals ⌝ }
+    ensures { λ r. ⌜ (r .held ≤ length (now (input .exit))) × (r .waiting ≤ length (now (out .exit))) × Sound (r .totals) × (r .«write_failed» ≡ false → RestKept totals (take held (now (input .entry))) (r .totals) (take (r .held) (now (input .exit)))) ⌝ }
 {
     let listed = list_held(&input[..held], out, waiting, totals);
     let used = listed.used;
@@ -93,7 +96,9 @@ fn list_input(
 }
 
 // Whether nothing more is to be read: the input has ended, a write failed, or a byte follows the last record that may be read.
-fn is_over(state: State, ended: bool) -> bool {
+fn is_over(state: State, ended: bool) -> bool
+    ensures { λ r. ⌜ r ≡ over ended (state .«write_failed») (state .totals) (state .held) ⌝ }
+{
     if ended {
         return true;
     }
@@ -108,7 +113,8 @@ fn is_over(state: State, ended: bool) -> bool {
 
 // Reads the log and lists its records. A proved loop has to end, and nothing says that the input does: the turns are counted down.
 fn feed(input: &mut [u8], out: &mut [u8]) -> State
-    ensures { λ r. ⌜ (r .held ≤ length (now (input .exit))) × (r .waiting ≤ length (now (out .exit))) ⌝ }
+    requires { ⌜ 128 ≤ length (now out) ⌝ }
+    ensures { λ r. ⌜ (r .held ≤ length (now (input .exit))) × (r .waiting ≤ length (now (out .exit))) × Sound (r .totals) × (r .«read_failed» ≡ false → r .«write_failed» ≡ false → NoneLeft (r .totals) (take (r .held) (now (input .exit)))) ⌝ }
 {
     let mut held = 0;
     let mut waiting = 0;
@@ -144,33 +150,36 @@ fn feed(input: &mut [u8], out: &mut [u8]) -> State
     }
 }
 
-// Writes what waits, behind it the lines that end the listing, and answers whether they are written.
-fn finish(rest: &[u8], out: &mut [u8], waiting: usize, totals: Totals) -> bool
-    requires { ⌜ waiting ≤ length (now out) ⌝ }
+// Writes what waits and the lines that end the listing, and answers whether everything is written.
+fn finish(rest: &[u8], out: &mut [u8], state: State) -> bool
+    requires { ⌜ state .waiting ≤ length (now out) ⌝ }
 {
-    let output = make_room(out, waiting, LINE_ROOM);
+    if state.write_failed {
+        return false;
+    }
+    let output = make_room(out, state.waiting, LINE_ROOM);
     if output.failed {
         return false;
     }
+    let totals = state.totals;
     let end = put_end(out, output.waiting, rest, totals);
     io::write_all(STDOUT_FILENO, &out[..end])
 }
 
 // A listing without TOTAL is not complete: then the error output says why.
-fn run(input: &mut [u8], out: &mut [u8]) {
+fn run(input: &mut [u8], out: &mut [u8])
+    requires { ⌜ 128 ≤ length (now out) ⌝ }
+{
     let state = feed(input, out);
     let held = state.held;
     let waiting = state.waiting;
-    let totals = state.totals;
     if state.read_failed {
         io::write_all(STDOUT_FILENO, &out[..waiting]);
         io::write_all(STDERR_FILENO, b"list_log: the log cannot be read\n");
         return;
     }
-    if !state.write_failed {
-        if finish(&input[..held], out, waiting, totals) {
-            return;
-        }
+    if finish(&input[..held], out, state) {
+        return;
     }
     io::write_all(STDERR_FILENO, b"list_log: the listing cannot be written\n");
 }

@@ -1,85 +1,90 @@
+-- `feed` meets its contract: a read for each turn.
+-- Assumes nothing.
+use borrow.Author.Needs.{needs}
+use native.Mathlib.Omega.{arith}
+use Prim.Native.Nat.{_≤_}
+use mathlib.Core.Path.{_≡_, refl, sym, _∙_, subst}
+use mathlib.Core.Bool.{true≢false}
+use lib.ListN.{length, take}
+use Rattle.felica_log.specs.Rules.{Sound, NoneLeft}
+use Rattle.felica_log.proofs.Rules.{sound-start}
+use Rattle.list_log.proofs.Held.{none-of, none-kept, not-over}
 use Rattle.list_log.proofs.feed.Statement.{statement}
 use Rattle.list_log.proofs.feed.Tie as tie
-use Rattle.list_log.proofs.feed.Reads as reads
-use Rattle.list_log.proofs.feed.Lts as lts
-use Rattle.felica_stream.proofs.read_more.Reads as read-more-reads
-use Rattle.felica_totals.proofs.Totals.new.Reads as new-reads
-use Rattle.list_log.proofs.is_over.Reads as is-over-reads
-use Rattle.list_log.proofs.list_input.Reads as list-input-reads
 
 abbrev Inv-loop : tie.InvT-loop
-Inv-loop input₀ out₀ held₀ waiting₀ totals₀ turns₀ input out held waiting totals turns = ?
+Inv-loop input₀ out₀ held₀ waiting₀ totals₀ turns₀ input out held waiting totals turns =
+    (held ≤ length input) × (waiting ≤ length out) × (length input ≡ length input₀) × (length out ≡ length out₀) × Sound totals × NoneLeft totals (take held input)
 
 abbrev μ-loop : tie.MeasureT-loop
-μ-loop input₀ out₀ held₀ waiting₀ totals₀ turns₀ input out held waiting totals turns = ?
+μ-loop input₀ out₀ held₀ waiting₀ totals₀ turns₀ input out held waiting totals turns = turns
 
--- src/main.rt:115:9
 new-requires : tie.Need-new-requires Inv-loop μ-loop
-new-requires c κs = ?
+new-requires c κs = search needs
 
--- src/main.rt:117:5
 loop-holds : tie.Need-loop-holds Inv-loop μ-loop
-loop-holds c = ?
+loop-holds c = (omega arith, omega arith, refl, refl, subst Sound (sym (c .new .ensures)) sound-start, none-of (c .new .result) _ refl)
 
--- src/main.rt:118:13
 read-more-requires : tie.Need-read-more-requires Inv-loop μ-loop
-read-more-requires c κs = ?
+read-more-requires c κs = search needs
 
--- src/main.rt:120:13
 same-length : tie.Need-same-length Inv-loop μ-loop
-same-length c = ?
+same-length c = c .before .before .before .read-more .kept .0 ∙ c .before .before .before .before .before .before .loop .inv .2
 
--- src/main.rt:120:13
 same-length-2 : tie.Need-same-length-2 Inv-loop μ-loop
-same-length-2 c = ?
+same-length-2 c = c .before .before .before .before .before .before .loop .inv .3
 
--- src/main.rt:120:13
 returns : tie.Need-returns Inv-loop μ-loop
-returns c = ?
+returns c =
+    let loop = c .before .before .before .before .before .before .loop in
+    (omega (arith, loop .inv .0, c .before .before .before .read-more .kept .0), loop .inv .1, loop .inv .4, λ e _. absurd (true≢false e))
 
--- src/main.rt:129:13
 list-input-requires : tie.Need-list-input-requires Inv-loop μ-loop
-list-input-requires c κs = ?
+list-input-requires c κs =
+    let loop = c .before .before .before .before .before .before .before .before .loop in
+    (c .before .before .before .before .before .read-more .ensures .0, loop .inv .1, omega (arith, c .before .before .before .before .before .before .before .before .before .before .before .before .pre, loop .inv .3), loop .inv .4)
 
--- src/main.rt:130:12
 is-over-requires : tie.Need-is-over-requires Inv-loop μ-loop
-is-over-requires c κs = ?
+is-over-requires c κs = search needs
 
--- src/main.rt:131:13
 same-length-3 : tie.Need-same-length-3 Inv-loop μ-loop
-same-length-3 c = ?
+same-length-3 c = c .before .before .before .before .before .before .list-input .kept .0 ∙ c .before .before .before .before .before .before .before .before .before .before .before .before .read-more .kept .0 ∙ c .before .before .before .before .before .before .before .before .before .before .before .before .before .before .before .loop .inv .2
 
--- src/main.rt:131:13
 same-length-4 : tie.Need-same-length-4 Inv-loop μ-loop
-same-length-4 c = ?
+same-length-4 c = c .before .before .before .before .before .before .list-input .kept .1 .1 .0 ∙ c .before .before .before .before .before .before .before .before .before .before .before .before .before .before .before .loop .inv .3
 
--- src/main.rt:131:13
 returns-2 : tie.Need-returns-2 Inv-loop μ-loop
-returns-2 c = ?
+returns-2 c =
+    let listed = c .before .before .before .before .before .before .list-input .ensures in
+    (listed .0, listed .1, listed .2, λ _ e. none-kept _ _ _ _ (listed .3 e))
 
--- src/main.rt:136:9
 sub-turns : tie.Need-sub-turns Inv-loop μ-loop
-sub-turns c = ?
+sub-turns c = omega arith
 
--- src/main.rt:117:5
 loop-less : tie.Need-loop-less Inv-loop μ-loop
-loop-less c = ?
+loop-less c = omega arith
 
--- src/main.rt:117:5
 loop-again : tie.Need-loop-again Inv-loop μ-loop
-loop-again c = ?
+loop-again c =
+    let loop = c .before .before .before .before .before .before .before .before .before .before .before .before .before .before .before .before .loop in
+    let listed = c .before .before .before .before .before .before .before .list-input .ensures in
+    let written = not-over _ _ _ _ (sym (c .before .before .is-over .ensures) ∙ c .before .if2 .left) in (
+      listed .0,
+      listed .1,
+      c .before .before .before .before .before .before .before .list-input .kept .0 ∙ c .before .before .before .before .before .before .before .before .before .before .before .before .before .read-more .kept .0 ∙ loop .inv .2,
+      c .before .before .before .before .before .before .before .list-input .kept .1 .1 .0 ∙ loop .inv .3,
+      listed .2,
+      none-kept _ _ _ _ (listed .3 written),
+    )
 
--- src/main.rt:110:1
 same-length-5 : tie.Need-same-length-5 Inv-loop μ-loop
-same-length-5 c = ?
+same-length-5 c = c .before .loop .inv .2
 
--- src/main.rt:110:1
 same-length-6 : tie.Need-same-length-6 Inv-loop μ-loop
-same-length-6 c = ?
+same-length-6 c = c .before .loop .inv .3
 
--- src/main.rt:110:1
 returns-3 : tie.Need-returns-3 Inv-loop μ-loop
-returns-3 c = ?
+returns-3 c = let loop = c .before .loop in (loop .inv .0, loop .inv .1, loop .inv .4, λ _ _. loop .inv .5)
 
 pub feed-spec : {M : Type 1} → statement M
 feed-spec =

@@ -1,88 +1,126 @@
+-- `list_held` meets its contract: a step for each turn.
+-- Assumes nothing.
+use borrow.Author.Needs.{needs}
+use borrow.Author.Tests.{le-leb}
+use native.Mathlib.Omega.{arith}
+use Prim.Native.Nat.{_+_, _-_, _≤_}
+use mathlib.Core.Path.{_≡_, refl, ap, _∙_, subst}
+use mathlib.Core.Bool.{true≢false}
+use lib.ListN.{length, drop, length-drop}
+use Rattle.felica_put.specs.Put.{buffer}
+use Rattle.felica_log.specs.Rules.{Sound, NoneLeft}
+use Rattle.felica_log.proofs.Turn.{rest-is}
+use Rattle.list_log.specs.Held.{Along}
+use Rattle.list_log.proofs.Held.{waits-inside, room-made, used-inside, next-inside, sound-after, none-after, along-start, along-after, none-of}
 use Rattle.list_log.proofs.list_held.Statement.{statement}
 use Rattle.list_log.proofs.list_held.Tie as tie
-use Rattle.list_log.proofs.list_held.Reads as reads
-use Rattle.list_log.proofs.list_held.Lts as lts
-use Rattle.felica_log.proofs.step.list_records.Reads as list-records-reads
-use Rattle.felica_stream.proofs.make_room.Reads as make-room-reads
-use Rattle.list_log.proofs.Listed.of.Reads as of-reads
 
 abbrev Inv-loop : tie.InvT-loop
-Inv-loop held out₀ waiting used₀ next₀ after₀ out used next after = ?
+Inv-loop held out₀ waiting used₀ next₀ after₀ out used next after =
+    (used ≤ length held) × (next ≤ length out) × (length out ≡ length out₀) × Sound after × Along after₀ held after used
 
 abbrev μ-loop : tie.MeasureT-loop
-μ-loop held out₀ waiting used₀ next₀ after₀ out used next after = ?
+μ-loop held out₀ waiting used₀ next₀ after₀ out used next after = length held - used
 
--- src/main.rt:54:5
 loop-holds : tie.Need-loop-holds Inv-loop μ-loop
-loop-holds c = ?
+loop-holds c = (omega arith, c .before .before .pre .0, refl, c .before .before .pre .2, along-start (c .before .before .args .totals) (c .before .before .args .held .now))
 
--- src/main.rt:55:13
 make-room-requires : tie.Need-make-room-requires Inv-loop μ-loop
-make-room-requires c κs = ?
+make-room-requires c κs = search needs
 
--- src/main.rt:58:13
 of-requires : tie.Need-of-requires Inv-loop μ-loop
-of-requires c κs = ?
+of-requires c κs = search needs
 
--- src/main.rt:58:13
 same-length : tie.Need-same-length Inv-loop μ-loop
-same-length c = ?
+same-length c = c .before .before .before .before .before .loop .inv .2
 
--- src/main.rt:58:13
 returns : tie.Need-returns Inv-loop μ-loop
-returns c = ?
+returns c =
+    let loop = c .before .before .before .before .before .loop in
+    rw (c .of .ensures) (loop .inv .0, waits-inside _ _ _ _ (c .before .before .make-room .ensures .0), loop .inv .3, λ e. absurd (true≢false e))
 
--- src/main.rt:60:37
 sub-list-records : tie.Need-sub-list-records Inv-loop μ-loop
-sub-list-records c = ?
+sub-list-records c = omega (arith, c .before .before .before .loop-test .taken)
 
--- src/main.rt:60:37
 part-list-records-start : tie.Need-part-list-records-start Inv-loop μ-loop
-part-list-records-start c = ?
+part-list-records-start c = omega (arith, c .before .before .before .loop-test .taken)
 
--- src/main.rt:60:37
 part-list-records-end : tie.Need-part-list-records-end Inv-loop μ-loop
-part-list-records-end c = ?
+part-list-records-end c = omega (arith, c .before .before .before .loop-test .taken)
 
--- src/main.rt:60:13
 list-records-requires : tie.Need-list-records-requires Inv-loop μ-loop
-list-records-requires c κs = ?
+list-records-requires c κs = search needs
 
--- src/main.rt:64:13
 of-requires-2 : tie.Need-of-requires-2 Inv-loop μ-loop
-of-requires-2 c κs = ?
+of-requires-2 c κs = search needs
 
--- src/main.rt:64:13
 same-length-2 : tie.Need-same-length-2 Inv-loop μ-loop
-same-length-2 c = ?
+same-length-2 c = c .before .before .before .before .before .before .list-records .kept .1 .0 ∙ c .before .before .before .before .before .before .before .before .before .before .before .before .before .loop .inv .2
 
--- src/main.rt:64:13
 returns-2 : tie.Need-returns-2 Inv-loop μ-loop
-returns-2 c = ?
+returns-2 c =
+    let loop = c .before .before .before .before .before .before .before .before .before .before .before .before .before .loop in
+    let held = c .before .before .before .before .before .before .before .before .before .before .before .before .before .before .before .before .args .held .now in
+    let b = buffer (loop .out) (c .before .before .before .before .before .before .before .before .before .before .make-room .result .waiting) in
+    let e = c .before .before .before .before .before .before .list-records .ensures in
+    let rest = rest-is held (loop .used) (c .before .before .before .before .before .before .before .before .before .before .before .before .loop-test .taken) in
+    let none : loop .used + c .before .before .before .before .before .before .list-records .result .used ≡ loop .used = omega (arith, c .before .if2 .taken) in
+    let room = le-leb 128 (length (loop .out) - b .next) (omega (arith, room-made (b .next) (loop .next) 128 (length (loop .out)) (c .before .before .before .before .before .before .before .before .before .before .make-room .ensures .0) (omega (arith, c .before .before .before .before .before .before .before .before .before .before .before .before .before .before .before .before .pre .1, loop .inv .2)))) in
+    rw (c .of2 .ensures) (
+      loop .inv .0,
+      next-inside b (loop .after) _ e (waits-inside _ _ _ _ (c .before .before .before .before .before .before .before .before .before .before .make-room .ensures .0)),
+      sound-after b (loop .after) _ e (loop .inv .3),
+      λ _. (
+        subst (Along (c .before .before .before .before .before .before .before .before .before .before .before .before .before .before .before .before .args .totals) held (c .before .before .before .before .before .before .list-records .result .totals)) none (along-after b (loop .after) _ e _ held (loop .used) rest (loop .inv .4)),
+        subst (NoneLeft (c .before .before .before .before .before .before .list-records .result .totals)) rest (none-after b (loop .after) _ e (loop .inv .3) room (c .before .if2 .taken)),
+      ),
+    )
 
--- src/main.rt:66:9
 add-used : tie.Need-add-used Inv-loop μ-loop
-add-used c = ?
+add-used c =
+    let loop = c .before .before .before .before .before .before .before .before .before .before .before .before .before .loop in
+    let held = c .before .before .before .before .before .before .before .before .before .before .before .before .before .before .before .before .args .held .now in
+    let long = ap length (rest-is held (loop .used) (c .before .before .before .before .before .before .before .before .before .before .before .before .loop-test .taken)) ∙ length-drop (loop .used) held in
+    record { fits = omega (arith, used-inside _ _ _ (c .before .before .before .before .before .before .list-records .ensures), long, c .before .before .before .before .before .before .before .before .before .before .before .before .loop-test .taken, c .before .before .before .before .before .before .before .before .before .before .before .before .before .before .before .before .good .0) }
 
--- src/main.rt:54:5
 loop-less : tie.Need-loop-less Inv-loop μ-loop
-loop-less c = ?
+loop-less c =
+    let loop = c .before .before .before .before .before .before .before .before .before .before .before .before .before .loop in
+    let held = c .before .before .before .before .before .before .before .before .before .before .before .before .before .before .before .before .args .held .now in
+    let long = ap length (rest-is held (loop .used) (c .before .before .before .before .before .before .before .before .before .before .before .before .loop-test .taken)) ∙ length-drop (loop .used) held in
+    omega (arith, used-inside _ _ _ (c .before .before .before .before .before .before .list-records .ensures), long, c .before .before .before .before .before .before .before .before .before .before .before .before .loop-test .taken, c .before .if2 .left)
 
--- src/main.rt:54:5
 loop-again : tie.Need-loop-again Inv-loop μ-loop
-loop-again c = ?
+loop-again c =
+    let loop = c .before .before .before .before .before .before .before .before .before .before .before .before .before .loop in
+    let held = c .before .before .before .before .before .before .before .before .before .before .before .before .before .before .before .before .args .held .now in
+    let b = buffer (loop .out) (c .before .before .before .before .before .before .before .before .before .before .make-room .result .waiting) in
+    let e = c .before .before .before .before .before .before .list-records .ensures in
+    let rest = rest-is held (loop .used) (c .before .before .before .before .before .before .before .before .before .before .before .before .loop-test .taken) in
+    let long = ap length rest ∙ length-drop (loop .used) held in (
+      omega (arith, used-inside b (loop .after) _ e, long, c .before .before .before .before .before .before .before .before .before .before .before .before .loop-test .taken),
+      next-inside b (loop .after) _ e (waits-inside _ _ _ _ (c .before .before .before .before .before .before .before .before .before .before .make-room .ensures .0)),
+      c .before .before .before .before .before .before .list-records .kept .1 .0 ∙ loop .inv .2,
+      sound-after b (loop .after) _ e (loop .inv .3),
+      along-after b (loop .after) _ e _ held (loop .used) rest (loop .inv .4),
+    )
 
--- src/main.rt:68:5
 of-requires-3 : tie.Need-of-requires-3 Inv-loop μ-loop
-of-requires-3 c κs = ?
+of-requires-3 c κs = search needs
 
--- src/main.rt:47:1
 same-length-3 : tie.Need-same-length-3 Inv-loop μ-loop
-same-length-3 c = ?
+same-length-3 c = c .before .before .loop .inv .2
 
--- src/main.rt:47:1
 returns-3 : tie.Need-returns-3 Inv-loop μ-loop
-returns-3 c = ?
+returns-3 c =
+    let loop = c .before .before .loop in
+    let held = c .before .before .before .before .before .args .held .now in
+    rw (c .of3 .ensures) (
+      loop .inv .0,
+      loop .inv .1,
+      loop .inv .3,
+      λ _. (loop .inv .4, none-of (loop .after) (drop (loop .used) held) (rw (length-drop (loop .used) held) (omega (arith, c .before .loop-test .left)))),
+    )
 
 pub list-held-spec : {M : Type 1} → statement M
 list-held-spec =

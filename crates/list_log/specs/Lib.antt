@@ -1,0 +1,2 @@
+-- What the program has listed of the bytes that it holds.
+pub mod Held
