@@ -14,9 +14,11 @@ use felica_calls::fault::Fault;
 use felica_calls::fault::put_fault;
 use felica_calls::write::behind_code;
 use felica_put::put_byte;
+use felica_stream::keep_rest;
+use felica_stream::make_room;
+use felica_stream::read_more;
 use felica_text::find::find;
 use felica_writing::answer_write;
-use libc::STDIN_FILENO;
 use libc::STDOUT_FILENO;
 use lists::answer_list;
 use parse::answer_parse;
@@ -28,13 +30,7 @@ const MAX_CALL_BYTES: usize = 16384;
 // come to less, and so do the five lists and what the writer writes, 16,384 bytes behind their count.
 const ANSWER_ROOM: usize = 33024;
 
-// How much of the output waits to be written, and whether a write has failed.
-struct Output {
-    waiting: usize,
-    failed: bool,
-}
-
-// The same, with how much is held of the input.
+// How much is held of the input and how much of the output waits to be written, and whether a write failed.
 struct State {
     held: usize,
     waiting: usize,
@@ -61,24 +57,6 @@ fn answer_line(line: &[u8], bytes: &mut [u8], out: &mut [u8], at: usize) -> usiz
     put_byte(out, next, b'\n')
 }
 
-// Writes the output where an answer might not fit behind what waits.
-fn make_room(out: &[u8], waiting: usize) -> Output
-    requires { ⌜ waiting ≤ length (now out) ⌝ }
-    ensures { λ r. ⌜ r .waiting ≤ length (now (out .entry)) ⌝ }
-{
-    if ANSWER_ROOM <= out.len() - waiting {
-        return Output {
-            waiting: waiting,
-            failed: false,
-        };
-    }
-    let written = io::write_all(STDOUT_FILENO, &out[..waiting]);
-    Output {
-        waiting: 0,
-        failed: !written,
-    }
-}
-
 // Answers the whole lines of `input`; what is held then is the rest of it.
 fn answer_lines(input: &[u8], bytes: &mut [u8], out: &mut [u8], waiting: usize) -> State
     requires { ⌜ waiting ≤ length (now out) ⌝ }
@@ -96,7 +74,7 @@ fn answer_lines(input: &[u8], bytes: &mut [u8], out: &mut [u8], waiting: usize) 
                 failed: false,
             };
         }
-        let output = make_room(out, next);
+        let output = make_room(out, next, ANSWER_ROOM);
         if output.failed {
             return State {
                 held: 0,
@@ -114,30 +92,6 @@ fn answer_lines(input: &[u8], bytes: &mut [u8], out: &mut [u8], waiting: usize) 
     }
 }
 
-// Reads once behind the `held` bytes at the start of `input`, and answers how many are held then.
-fn read_more(input: &mut [u8], held: usize) -> usize
-    requires { ⌜ held ≤ length (now input) ⌝ }
-    ensures { λ r. ⌜ (held ≤ r) × (r ≤ length (now (input .exit))) ⌝ }
-{
-    let part = &mut input[held..];
-    let got = libc::read(STDIN_FILENO, part);
-    let count = io::count(got, part);
-    held + count
-}
-
-// Moves the bytes of `input` from `from` to `end` to its start.
-fn shift(input: &mut [u8], from: usize, end: usize)
-    requires { ⌜ (from ≤ end) × (end ≤ length (now input)) ⌝ }
-{
-    let mut i = from;
-    let mut to = 0;
-    while i < end {
-        input[to] = input[i];
-        to += 1;
-        i += 1;
-    }
-}
-
 // Passes over the rest of a line, and answers how many bytes behind it are held. A proved loop has to end, and nothing says that the
 // input does: here and in `feed` the turns are counted down.
 fn skip_line(input: &mut [u8]) -> usize
@@ -145,14 +99,15 @@ fn skip_line(input: &mut [u8]) -> usize
 {
     let mut turns = u64::MAX;
     while 0 < turns {
-        let more = read_more(input, 0);
+        let read = read_more(input, 0);
+        let more = read.held;
         if more == 0 {
             return 0;
         }
         let end = find(&input[..more], b'\n');
         if end < more {
             let from = end + 1;
-            shift(input, from, more);
+            keep_rest(input, from, more);
             return more - from;
         }
         turns -= 1;
@@ -174,10 +129,10 @@ fn answer_held(
     let state = answer_lines(&input[..held], bytes, out, waiting);
     let rest = state.held;
     if rest < input.len() {
-        shift(input, held - rest, held);
+        keep_rest(input, held - rest, held);
         return state;
     }
-    let output = make_room(out, state.waiting);
+    let output = make_room(out, state.waiting, ANSWER_ROOM);
     let behind = put_fault(out, output.waiting, Fault::LineTooLong);
     let next = put_byte(out, behind, b'\n');
     State {
@@ -195,7 +150,8 @@ fn feed(input: &mut [u8], bytes: &mut [u8], out: &mut [u8]) -> State
     let mut waiting = 0;
     let mut turns = u64::MAX;
     while 0 < turns {
-        let more = read_more(input, held);
+        let read = read_more(input, held);
+        let more = read.held;
         let state = answer_held(input, more, bytes, out, waiting);
         if state.failed {
             return state;
@@ -225,7 +181,7 @@ fn run(input: &mut [u8], bytes: &mut [u8], out: &mut [u8]) {
         io::write_all(STDOUT_FILENO, &out[..waiting]);
         return;
     }
-    let output = make_room(out, waiting);
+    let output = make_room(out, waiting, ANSWER_ROOM);
     if output.failed {
         return;
     }

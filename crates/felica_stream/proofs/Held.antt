@@ -1,14 +1,16 @@
--- What a read leaves as it was, and bytes moved to the front one by one.
+-- What a read leaves as it was, bytes moved to the front one by one, and the room behind what waits to be written.
 -- Assumes nothing.
 use Prim.Native.Nat.{ℕ, suc, _+_, _-_, _≤_, _<_}
 use native.Mathlib.Nat.{zero-add}
 use native.Mathlib.Numerals.{add-one}
 use native.Mathlib.Omega.{arith}
 use mathlib.Core.Path.{_≡_, refl, sym, ap, _∙_}
+use mathlib.Core.Bool.{Bool, true, false, cond}
 use mathlib.Core.List.{List, _++_}
 use lib.ListN.{length, getD, set, take, drop, length-drop}
 use lib.Seq.{take-append-le, take-all, length-take-le, getD-drop, paste, paste-zero, paste-suc, drop-paste}
-use borrow.Author.Tests.{lt-leb, le-leb}
+use lib.Dec.{leb}
+use borrow.Author.Tests.{lt-leb, le-leb, leb-true}
 use Rattle.felica_stream.specs.Held.{moved}
 
 -- the bytes in front of a part that is written
@@ -39,3 +41,19 @@ move-done s from to end h n e = rw (le-leb end (length s) h) (e ∙ ap (paste s 
 pub move-short : (s : List ℕ) (from end : ℕ) → length s < end → s ≡ moved s from end
 unfolding moved
 move-short s from end h = rw (lt-leb end (length s) h)
+
+-- where output is written or not, there is room behind what waits
+module _ (w next room n : ℕ) (e : w ≡ cond (leb (next + room) n) next 0) where
+  made : (b : Bool) → leb (next + room) n ≡ b → room ≤ n → w + room ≤ n
+  made true q h = let k : next + room ≤ n = leb-true _ _ q in let is : w ≡ next = e ∙ rw q in omega arith
+  made false q h = let is : w ≡ 0 = e ∙ rw q in omega arith
+
+  waits : (b : Bool) → leb (next + room) n ≡ b → w ≤ n
+  waits true q = let k : next + room ≤ n = leb-true _ _ q in let is : w ≡ next = e ∙ rw q in omega arith
+  waits false q = let is : w ≡ 0 = e ∙ rw q in omega arith
+
+  pub waits-inside : w ≤ n
+  waits-inside = waits (leb (next + room) n) refl
+
+  pub room-made : room ≤ n → w + room ≤ n
+  room-made h = made (leb (next + room) n) refl h

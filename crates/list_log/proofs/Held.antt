@@ -4,12 +4,11 @@ use Prim.Native.Nat.{ℕ, zero, suc, _+_, _-_, _≤_, _<_}
 use native.Mathlib.Nat.{zero-add, sub-zero}
 use native.Mathlib.Omega.{arith}
 use mathlib.Core.Path.{_≡_, refl, sym, ap, _∙_, subst}
-use mathlib.Core.Bool.{Bool, true, false, cond, true≢false}
+use mathlib.Core.Bool.{Bool, true, false, true≢false}
 use mathlib.Core.List.{List, [], _∷_, _++_, append-assoc}
-use lib.Dec.{leb}
 use lib.ListN.{length, take, drop, length-drop}
 use lib.Seq.{take-nil, drop-drop, paste, take-paste}
-use borrow.Author.Tests.{le-leb, leb-true}
+use borrow.Author.Tests.{le-leb}
 use Rattle.felica_put.specs.Put.{Buffer}
 use Rattle.felica_totals.specs.declared.Totals.{Totals}
 use Rattle.felica_stream.specs.Held.{moved}
@@ -19,22 +18,6 @@ use Rattle.felica_log.specs.Step.{Reached, reached, roomForLine, step}
 use Rattle.felica_log.specs.Rules.{lines, Sound, NoneLeft}
 use Rattle.felica_log.proofs.Rules.{step-lists, step-inside, sound-kept, none-before}
 use Rattle.list_log.specs.Held.{Along, AllListed, RestKept, over}
-
--- where output is written or not, there is room behind what waits
-module _ (w next room n : ℕ) (e : w ≡ cond (leb (next + room) n) next 0) where
-  made : (b : Bool) → leb (next + room) n ≡ b → room ≤ n → w + room ≤ n
-  made true q h = let k : next + room ≤ n = leb-true _ _ q in let is : w ≡ next = e ∙ rw q in omega arith
-  made false q h = let is : w ≡ 0 = e ∙ rw q in omega arith
-
-  waits : (b : Bool) → leb (next + room) n ≡ b → w ≤ n
-  waits true q = let k : next + room ≤ n = leb-true _ _ q in let is : w ≡ next = e ∙ rw q in omega arith
-  waits false q = let is : w ≡ 0 = e ∙ rw q in omega arith
-
-  pub waits-inside : w ≤ n
-  waits-inside = waits (leb (next + room) n) refl
-
-  pub room-made : room ≤ n → w + room ≤ n
-  room-made h = made (leb (next + room) n) refl h
 
 -- one step more
 module _ (b : Buffer) (u : Totals) (piece : List ℕ) {out : Buffer} {v : Totals} {n : ℕ} {stop : Stop} (e : reached out v n stop ≡ step b u piece) where

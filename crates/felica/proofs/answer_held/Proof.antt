@@ -6,6 +6,7 @@ use lib.ListN.{length-take}
 use lib.Seq.{length-take-le}
 use Rattle.felica_put.proofs.Laws.{put-within}
 use borrow.Author.Needs.{needs}
+use Rattle.felica_stream.proofs.Held.{waits-inside}
 use Rattle.felica.proofs.answer_held.Statement.{statement}
 use Rattle.felica.proofs.answer_held.Tie as tie
 
@@ -18,11 +19,11 @@ slice-aggregate-answer-lines c = sym (length-take-le _ _ (c .before .before .bef
 answer-lines-requires : tie.Need-answer-lines-requires
 answer-lines-requires c κs = search needs
 
-sub-shift : tie.Need-sub-shift
-sub-shift c = let d = simp length-take at (c .before .before .before .before .before .before .answer-lines .ensures .0) in omega arith
+sub-keep-rest : tie.Need-sub-keep-rest
+sub-keep-rest c = let d = simp length-take at (c .before .before .before .before .before .before .answer-lines .ensures .0) in omega arith
 
-shift-requires : tie.Need-shift-requires
-shift-requires c κs = search needs
+keep-rest-requires : tie.Need-keep-rest-requires
+keep-rest-requires c κs = search needs
 
 same-length : tie.Need-same-length
 same-length c = search needs
@@ -58,7 +59,7 @@ same-length-6 : tie.Need-same-length-6
 same-length-6 c = search needs
 
 returns-2 : tie.Need-returns-2
-returns-2 c = (c .before .before .skip-line .ensures, put-within _ _ _ (c .before .before .before .before .before .before .put-byte .ensures) (put-within _ _ _ (c .before .before .before .before .before .before .before .before .before .before .put-fault .ensures) (c .before .before .before .before .before .before .before .before .before .before .before .before .make-room .ensures)))
+returns-2 c = (c .before .before .skip-line .ensures, put-within _ _ _ (c .before .before .before .before .before .before .put-byte .ensures) (put-within _ _ _ (c .before .before .before .before .before .before .before .before .before .before .put-fault .ensures) (waits-inside _ _ _ _ (c .before .before .before .before .before .before .before .before .before .before .before .before .make-room .ensures .0))))
 
 pub answer-held-spec : {M : Type 1} → statement M
 answer-held-spec =
@@ -67,8 +68,8 @@ answer-held-spec =
     slice-reshare-prefix-answer-lines
     slice-aggregate-answer-lines
     answer-lines-requires
-    sub-shift
-    shift-requires
+    sub-keep-rest
+    keep-rest-requires
     same-length
     same-length-2
     same-length-3

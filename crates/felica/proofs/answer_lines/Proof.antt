@@ -7,6 +7,7 @@ use Prim.Native.Nat.{_-_, _≤_}
 use mathlib.Core.Path.{_≡_, refl, sym, _∙_}
 use lib.ListN.{length, length-take, length-drop}
 use lib.Seq.{length-take-le}
+use Rattle.felica_stream.proofs.Held.{waits-inside}
 use Rattle.felica.proofs.answer_lines.Statement.{statement}
 use Rattle.felica.proofs.answer_lines.Tie as tie
 
@@ -41,7 +42,7 @@ returns : tie.Need-returns Inv-loop μ-loop
 returns c = (simp (length-take, length-drop) (omega arith), c .before .before .before .before .loop .inv .1)
 
 make-room-requires : tie.Need-make-room-requires Inv-loop μ-loop
-make-room-requires c κs = c .before .before .before .before .before .loop .inv .1
+make-room-requires c κs = tt
 
 same-length-3 : tie.Need-same-length-3 Inv-loop μ-loop
 same-length-3 c = c .before .before .before .before .before .before .before .loop .inv .2
@@ -70,7 +71,7 @@ loop-less c = let d = simp (length-take, length-drop) at (c .before .before .bef
 loop-again : tie.Need-loop-again Inv-loop μ-loop
 loop-again c = let d = simp (length-take, length-drop) at (c .before .before .before .before .before .before .before .before .before .before .before .if1 .left) in
     let w = c .before .before .before .before .answer-line in
-    (omega arith, line-within _ _ _ _ _ _ (w .ensures) (c .before .before .before .before .before .before .before .before .before .make-room .ensures), w .kept .1 .0 ∙ c .before .before .before .before .before .before .before .before .before .before .before .before .before .before .before .loop .inv .2, w .kept .1 .1 .0 ∙ c .before .before .before .before .before .before .before .before .before .before .before .before .before .before .before .loop .inv .3)
+    (omega arith, line-within _ _ _ _ _ _ (w .ensures) (waits-inside _ _ _ _ (c .before .before .before .before .before .before .before .before .before .make-room .ensures .0)), w .kept .1 .0 ∙ c .before .before .before .before .before .before .before .before .before .before .before .before .before .before .before .loop .inv .2, w .kept .1 .1 .0 ∙ c .before .before .before .before .before .before .before .before .before .before .before .before .before .before .before .loop .inv .3)
 
 same-length-5 : tie.Need-same-length-5 Inv-loop μ-loop
 same-length-5 c = c .before .loop .inv .2

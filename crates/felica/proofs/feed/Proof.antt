@@ -17,10 +17,10 @@ loop-holds : tie.Need-loop-holds Inv-loop μ-loop
 loop-holds c = (omega arith, omega arith, refl, refl, refl)
 
 read-more-requires : tie.Need-read-more-requires Inv-loop μ-loop
-read-more-requires c κs = c .before .before .loop .inv .0
+read-more-requires c κs = tt
 
 answer-held-requires : tie.Need-answer-held-requires Inv-loop μ-loop
-answer-held-requires c κs = (c .before .before .before .before .before .read-more .ensures .1, c .before .before .before .before .before .before .before .before .loop .inv .1)
+answer-held-requires c κs = (c .before .before .before .before .before .read-more .ensures .0, c .before .before .before .before .before .before .before .before .loop .inv .1)
 
 same-length : tie.Need-same-length Inv-loop μ-loop
 same-length c = c .before .before .before .before .before .before .before .answer-held .kept .0 ∙ c .before .before .before .before .before .before .before .before .before .before .before .before .before .read-more .kept .0 ∙ c .before .before .before .before .before .before .before .before .before .before .before .before .before .before .before .before .loop .inv .2

@@ -4,6 +4,7 @@ use mathlib.Core.Path.{sym}
 use lib.Seq.{length-take-le}
 use Rattle.felica.proofs.Within.{line-within}
 use borrow.Author.Needs.{needs}
+use Rattle.felica_stream.proofs.Held.{waits-inside}
 use Rattle.felica.proofs.run.Statement.{statement}
 use Rattle.felica.proofs.run.Tie as tie
 
@@ -68,10 +69,10 @@ answer-line-requires : tie.Need-answer-line-requires
 answer-line-requires c κs = search needs
 
 slice-reshare-prefix-write-all-2 : tie.Need-slice-reshare-prefix-write-all-2
-slice-reshare-prefix-write-all-2 c = line-within _ _ _ _ _ _ (c .before .before .before .before .answer-line .ensures) (c .before .before .before .before .before .before .before .before .before .make-room .ensures)
+slice-reshare-prefix-write-all-2 c = line-within _ _ _ _ _ _ (c .before .before .before .before .answer-line .ensures) (waits-inside _ _ _ _ (c .before .before .before .before .before .before .before .before .before .make-room .ensures .0))
 
 slice-aggregate-write-all-2 : tie.Need-slice-aggregate-write-all-2
-slice-aggregate-write-all-2 c = sym (length-take-le _ _ (line-within _ _ _ _ _ _ (c .before .before .before .before .before .answer-line .ensures) (c .before .before .before .before .before .before .before .before .before .before .make-room .ensures)))
+slice-aggregate-write-all-2 c = sym (length-take-le _ _ (line-within _ _ _ _ _ _ (c .before .before .before .before .before .answer-line .ensures) (waits-inside _ _ _ _ (c .before .before .before .before .before .before .before .before .before .before .make-room .ensures .0))))
 
 write-all-requires-2 : tie.Need-write-all-requires-2
 write-all-requires-2 c κs = search needs

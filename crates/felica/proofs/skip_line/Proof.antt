@@ -18,7 +18,7 @@ loop-holds : tie.Need-loop-holds Inv-loop μ-loop
 loop-holds c = refl
 
 read-more-requires : tie.Need-read-more-requires Inv-loop μ-loop
-read-more-requires c κs = omega arith
+read-more-requires c κs = tt
 
 same-length : tie.Need-same-length Inv-loop μ-loop
 same-length c = c .before .before .before .read-more .kept .0 ∙ c .before .before .before .before .before .before .loop .inv
@@ -27,10 +27,10 @@ returns : tie.Need-returns Inv-loop μ-loop
 returns c = omega arith
 
 slice-reshare-prefix-find : tie.Need-slice-reshare-prefix-find Inv-loop μ-loop
-slice-reshare-prefix-find c = c .before .before .before .read-more .ensures .1
+slice-reshare-prefix-find c = c .before .before .before .read-more .ensures .0
 
 slice-aggregate-find : tie.Need-slice-aggregate-find Inv-loop μ-loop
-slice-aggregate-find c = sym (length-take-le _ _ (c .before .before .before .before .read-more .ensures .1))
+slice-aggregate-find c = sym (length-take-le _ _ (c .before .before .before .before .read-more .ensures .0))
 
 find-requires : tie.Need-find-requires Inv-loop μ-loop
 find-requires c κs = search needs
@@ -38,17 +38,17 @@ find-requires c κs = search needs
 add-from : tie.Need-add-from Inv-loop μ-loop
 add-from c = omega arith
 
-shift-requires : tie.Need-shift-requires Inv-loop μ-loop
-shift-requires c κs = (omega arith, c .before .before .before .before .before .before .before .read-more .ensures .1)
+keep-rest-requires : tie.Need-keep-rest-requires Inv-loop μ-loop
+keep-rest-requires c κs = tt
 
 sub-result : tie.Need-sub-result Inv-loop μ-loop
 sub-result c = omega arith
 
 same-length-2 : tie.Need-same-length-2 Inv-loop μ-loop
-same-length-2 c = c .before .before .shift .kept .0 ∙ c .before .before .before .before .before .before .before .before .before .before .read-more .kept .0 ∙ c .before .before .before .before .before .before .before .before .before .before .before .before .before .loop .inv
+same-length-2 c = c .before .before .keep-rest .kept .0 ∙ c .before .before .before .before .before .before .before .before .before .before .read-more .kept .0 ∙ c .before .before .before .before .before .before .before .before .before .before .before .before .before .loop .inv
 
 returns-2 : tie.Need-returns-2 Inv-loop μ-loop
-returns-2 c = omega (arith, c .before .before .shift .kept .0, c .before .before .before .before .before .before .before .before .before .before .read-more .ensures .1)
+returns-2 c = omega (arith, c .before .before .keep-rest .kept .0, c .before .before .before .before .before .before .before .before .before .before .read-more .ensures .0)
 
 sub-turns : tie.Need-sub-turns Inv-loop μ-loop
 sub-turns c = omega arith
@@ -79,7 +79,7 @@ skip-line-spec =
     slice-aggregate-find
     find-requires
     add-from
-    shift-requires
+    keep-rest-requires
     sub-result
     same-length-2
     returns-2

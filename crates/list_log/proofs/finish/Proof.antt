@@ -4,7 +4,7 @@ use borrow.Author.Needs.{needs}
 use mathlib.Core.Path.{sym}
 use lib.Seq.{length-take-le}
 use Rattle.felica_put.proofs.Laws.{put-within}
-use Rattle.list_log.proofs.Held.{waits-inside}
+use Rattle.felica_stream.proofs.Held.{waits-inside}
 use Rattle.list_log.proofs.finish.Statement.{statement}
 use Rattle.list_log.proofs.finish.Tie as tie
 

@@ -11,7 +11,8 @@ use Rattle.felica_put.specs.Put.{buffer}
 use Rattle.felica_log.specs.Rules.{Sound, NoneLeft}
 use Rattle.felica_log.proofs.Turn.{rest-is}
 use Rattle.list_log.specs.Held.{Along}
-use Rattle.list_log.proofs.Held.{waits-inside, room-made, used-inside, next-inside, sound-after, none-after, along-start, along-after, none-of}
+use Rattle.felica_stream.proofs.Held.{waits-inside, room-made}
+use Rattle.list_log.proofs.Held.{used-inside, next-inside, sound-after, none-after, along-start, along-after, none-of}
 use Rattle.list_log.proofs.list_held.Statement.{statement}
 use Rattle.list_log.proofs.list_held.Tie as tie
 
