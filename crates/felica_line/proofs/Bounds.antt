@@ -1,32 +1,32 @@
 -- How much a frame can list: no accepted frame has more than 64 codes or 255 blocks, and no line of a listing is longer than the room that a step asks for.
 -- Assumes nothing.
-use Prim.Native.Nat.{ℕ, suc, _%_, _≤_, _<_}
+use Prim.Native.Nat.{ℕ, suc, _%_, _≤_}
 use native.Mathlib.Omega.{arith}
 use mathlib.Core.Logic.{_⊎_, inl, inr}
 use mathlib.Core.Path.{_≡_, refl, sym, ap, _∙_, subst}
 use mathlib.Core.Bool.{Bool, true, false, cond, _||_}
-use mathlib.Core.List.{List, [], _∷_, _++_, map}
+use mathlib.Core.List.{List, [], _∷_}
 use mathlib.Core.Option.{Option, none, some}
 use lib.Dec.{ltb, eqb}
 use lib.ListN.{length, getD, length-append, length-map}
 use borrow.Author.Tests.{ltb-false}
 use Rattle.felica_format.specs.declared.classes.Class.{Class}
 use Rattle.felica_format.specs.declared.classes.Class.the-variants.{Plain, Secure, Unknown}
-use Rattle.felica_format.specs.Basic.{Step, taken, refuse, bind}
+use Rattle.felica_format.specs.Basic.{Step, taken, refuse}
 use Rattle.felica_format.specs.Command.{Command, Element}
 use Rattle.felica_format.specs.Layout.{Codes, noCodes, _to_, Layout, classOf, layoutOf, boundsOf}
-use Rattle.felica_format.specs.Read.{readCount, readWords, wordsOf, readCodes, readEach, readElements, readBody, Answer as Reading, gives, refused}
+use Rattle.felica_format.specs.Read.{readCount, readWords, readCodes, readEach, readElements, readBody, Answer as Reading, gives, refused}
 use Rattle.felica_format.specs.Read.{answerOf, readPlainAs, readPayload, readFrame}
-use Rattle.felica_format.proofs.Steps.{taken-value, none-taken, refuseIf-passed, refuseIf-taken, bind-taken, not-given}
+use Rattle.felica_format.proofs.Steps.{taken-value, none-taken, refuseIf-passed, refuseIf-taken, not-given}
 use Rattle.felica_format.proofs.Tests.{or-none}
 use Rattle.felica_format.proofs.Rows.{few-codes}
 use Rattle.felica_command.proofs.Inside.{wordsOf-length, each-leaves, took}
 use Rattle.felica_format.specs.Grounds.{Number}
 use Rattle.felica_format.proofs.Grounds.{frame-refusals}
-use Rattle.felica_text.specs.Text.{text, byteText, decimalText}
+use Rattle.felica_text.specs.Text.{text}
 use Rattle.felica_text.proofs.Text.{decimal-length}
 use Rattle.felica_fields.specs.Refused.{refusedText}
-use Rattle.felica_line.specs.Line.{markText, marksText, markField, listedCodes, acceptedText, frameText, recordLine, isAccepted, blocksIn}
+use Rattle.felica_line.specs.Line.{markText, marksText, markField, listedCodes, acceptedText, frameText, recordLine, blocksIn}
 
 count-few : (m o least greatest : ℕ) (s : List ℕ) (n : ℕ) (r : List ℕ) → readCount m o least greatest s ≡ taken n r → n ≤ greatest
 unfolding readCount

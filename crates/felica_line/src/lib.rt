@@ -1,6 +1,5 @@
 // The line of one frame in a listing, put into a lent buffer as felica_put puts bytes.
 ghost use mathlib.Core.Path.{_≡_};
-ghost use lib.ListN.{drop};
 ghost use Rattle.felica_format.specs.Read.{readFrame};
 ghost use Rattle.felica_command.specs.Meaning.{meaning};
 ghost use Rattle.felica_command.specs.Places.{placesOf, Inside};

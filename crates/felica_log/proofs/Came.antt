@@ -1,6 +1,6 @@
 -- How a step came where it stopped: the text that it put, the bytes that it listed, and what holds there. One induction over the records that may be read.
 -- Assumes nothing.
-use Prim.Native.Nat.{ℕ, zero, suc, _+_, _-_, _*_, _≤_, _<_}
+use Prim.Native.Nat.{ℕ, zero, suc, _+_, _-_, _≤_, _<_}
 use native.Mathlib.Numerals.{add-one}
 use native.Mathlib.Omega.{arith}
 use mathlib.Core.Path.{_≡_, refl, sym, ap, _∙_, subst}
@@ -10,7 +10,7 @@ use mathlib.Core.List.{List, [], _∷_, _++_, append-assoc, append-nil}
 use lib.Dec.{ltb, leb}
 use lib.ListN.{length, take, drop, length-append, length-drop}
 use lib.Seq.{take-append-le, drop-append-le, drop-drop}
-use borrow.Author.Tests.{ltb-true, ltb-false, leb-true, leb-false, lt-leb}
+use borrow.Author.Tests.{ltb-true, leb-true, leb-false, lt-leb}
 use Rattle.felica_format.specs.Read.{readFrame}
 use Rattle.felica_put.specs.Put.{Buffer, put}
 use Rattle.felica_put.proofs.Laws.{put-append, put-room, kept}
@@ -19,10 +19,10 @@ use Rattle.felica_totals.specs.Count.{counted, hasRoom}
 use Rattle.felica_line.specs.Line.{recordLine, isAccepted, blocksIn}
 use Rattle.felica_line.proofs.Bounds.{blocks-few, line-length}
 use Rattle.felica_log.specs.declared.Stop.{Stop}
-use Rattle.felica_log.specs.declared.Stop.the-variants.{AtEnd, AtLimit, AtCut, NoRoom, TotalsFull}
+use Rattle.felica_log.specs.declared.Stop.the-variants.{AtLimit, AtCut, NoRoom, TotalsFull}
 use Rattle.felica_log.specs.declared.ahead.Ahead.{Ahead}
 use Rattle.felica_log.specs.declared.ahead.Ahead.the-variants.{Frame, Stop as StopsBy}
-use Rattle.felica_log.specs.Listing.{front, countedAs, recordsLeft, listingFrom}
+use Rattle.felica_log.specs.Listing.{countedAs, recordsLeft, listingFrom}
 use Rattle.felica_log.specs.Step.{Reached, reached, stepFrom}
 use Rattle.felica_log.specs.Rules.{Stopped, Sound}
 use Rattle.felica_log.specs.Ahead.{aheadOf}

@@ -1,9 +1,8 @@
 -- What stands at the front of a log, by its first byte and its length.
 -- Assumes nothing.
 use Prim.Native.Nat.{ℕ, zero, suc, _+_, _-_, _≤_, _<_}
-use native.Mathlib.Numerals.{add-one}
 use native.Mathlib.Omega.{arith}
-use mathlib.Core.Path.{_≡_, refl, sym, ap, _∙_}
+use mathlib.Core.Path.{_≡_, refl}
 use mathlib.Core.Bool.{Bool, true, false, cond}
 use mathlib.Core.List.{List, [], _∷_, _++_}
 use lib.Dec.{leb}
@@ -11,7 +10,7 @@ use lib.ListN.{length, getD, take, drop}
 use borrow.Author.Tests.{le-leb, lt-leb}
 use Rattle.felica_text.specs.Text.{text}
 use Rattle.felica_totals.specs.declared.Totals.{Totals}
-use Rattle.felica_log.specs.Listing.{Front, nothing, cutBy, frameThen, front, atFront, lineEnd, cutLine, fullLine, recordsLeft}
+use Rattle.felica_log.specs.Listing.{cutBy, frameThen, front, atFront, lineEnd, cutLine, recordsLeft}
 use Rattle.felica_log.specs.Step.{restLine}
 
 pub front-whole : (size : ℕ) (s : List ℕ) → size ≤ length s → front (size ∷ s) ≡ frameThen (take size s) (drop size s)

@@ -1,6 +1,6 @@
 -- The statements of specs/Rules.antt, each proved under its name.
 -- Assumes nothing.
-use Prim.Native.Nat.{ℕ, zero, suc, _+_, _-_, _*_, _≤_, _<_, _^_}
+use Prim.Native.Nat.{ℕ, zero, suc, _+_, _-_, _≤_, _<_, _^_}
 use native.Mathlib.Omega.{arith}
 use mathlib.Core.Path.{_≡_, refl, sym, ap, _∙_, subst}
 use mathlib.Core.Logic.{_⊎_, inl, inr}
@@ -13,20 +13,20 @@ use borrow.Author.Tests.{lt-ltb, ltb-true}
 use Rattle.felica_format.specs.Read.{readFrame}
 use Rattle.felica_format.specs.Basic.{Bytes}
 use Rattle.felica_format.proofs.Tests.{and-left, and-both}
-use Rattle.felica_put.specs.Put.{Buffer, buffer, put}
+use Rattle.felica_put.specs.Put.{Buffer, put}
 use Rattle.felica_put.proofs.Laws.{put-room, kept}
 use Rattle.felica_totals.specs.declared.Totals.{Totals}
-use Rattle.felica_totals.specs.Count.{noTotals, hasRoom}
+use Rattle.felica_totals.specs.Count.{hasRoom}
 use Rattle.felica_text.proofs.Text.{decimal-length}
 use Rattle.felica_line.specs.Line.{recordLine}
 use Rattle.felica_log.specs.Listing.{Front, nothing, cutBy, frameThen, front, atFront, cutLine, totalLine, countedAs, recordsLeft}
 use Rattle.felica_log.specs.Listing.{listingFrom, listing}
 use Rattle.felica_log.specs.declared.Stop.{Stop}
 use Rattle.felica_log.specs.declared.Stop.the-variants.{AtEnd, AtLimit, AtCut, NoRoom, TotalsFull}
-use Rattle.felica_log.specs.Step.{Reached, roomForLine, step, restLine, endText}
-use Rattle.felica_log.specs.Rules.{lines, StepLists, StepKeeps, StepInside, Stopped, StopsExactly, Sound, SoundStart, SoundKept, SoundRoom, NoneLeft, NoneBefore, EndFits}
+use Rattle.felica_log.specs.Step.{roomForLine, step, restLine, endText}
+use Rattle.felica_log.specs.Rules.{lines, StepLists, StepKeeps, StepInside, Stopped, StopsExactly, SoundStart, SoundKept, SoundRoom, NoneLeft, NoneBefore, EndFits}
 use Rattle.felica_log.specs.Rules.{reads, steps, after, allRead, PiecesListed, EndListed, FullListed}
-use Rattle.felica_log.proofs.Front.{front-whole, front-cut, none-left}
+use Rattle.felica_log.proofs.Front.{none-left}
 use Rattle.felica_log.proofs.Came.{Came, came}
 
 -- a text that found room stands where it was put, and what lies before and behind it is as it was

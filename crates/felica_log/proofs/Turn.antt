@@ -9,7 +9,7 @@ use mathlib.Core.List.{List, [], _∷_}
 use lib.Dec.{ltb, leb}
 use lib.ListN.{length, getD, take, drop, length-drop}
 use lib.Seq.{length-take-le, take-all, drop-drop}
-use borrow.Author.Tests.{ltb-true, ltb-false, leb-true, leb-false, lt-ltb, le-ltb, lt-leb, le-leb}
+use borrow.Author.Tests.{ltb-true, ltb-false, leb-true, leb-false, lt-ltb, lt-leb, le-leb}
 use Rattle.felica_format.specs.Read.{readFrame}
 use Rattle.felica_format.specs.Basic.{_and_}
 use Rattle.felica_format.proofs.Tests.{and-both}
@@ -21,7 +21,6 @@ use Rattle.felica_line.specs.Line.{recordLine, isAccepted, blocksIn}
 use Rattle.felica_line.proofs.Bounds.{blocks-few}
 use Rattle.felica_log.specs.declared.Stop.{Stop}
 use Rattle.felica_log.specs.declared.Stop.the-variants.{AtEnd, AtLimit, AtCut, NoRoom, TotalsFull}
-use Rattle.felica_log.specs.declared.ahead.Ahead.{Ahead}
 use Rattle.felica_log.specs.declared.ahead.Ahead.the-variants.{Frame, Stop as StopsBy}
 use Rattle.felica_log.specs.Listing.{front, countedAs, recordsLeft}
 use Rattle.felica_log.specs.Step.{Reached, reached, stepFrom}

@@ -1,8 +1,8 @@
 -- What stands at the front of the rest of a piece: a record to be listed, by the size of its frame, or why the step stops there. This need not be believed:
 -- `list_records` is proved equal to `step`, which does not speak of it.
 -- Assumes nothing.
-use Prim.Native.Nat.{ℕ, suc}
-use mathlib.Core.Bool.{Bool, cond}
+use Prim.Native.Nat.{ℕ}
+use mathlib.Core.Bool.{cond}
 use mathlib.Core.List.{List, [], _∷_}
 use lib.Dec.{ltb, leb}
 use lib.ListN.{length}

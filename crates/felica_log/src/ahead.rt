@@ -1,6 +1,5 @@
 // What stands at the front of the rest of a piece.
 ghost use mathlib.Core.Path.{_≡_};
-ghost use lib.ListN.{length};
 ghost use Rattle.felica_log.specs.Ahead.{aheadOf};
 use crate::LINE_ROOM;
 use crate::MAX_RECORDS;
@@ -25,7 +24,8 @@ pub(crate) fn look_ahead(rest: &[u8], room: usize, totals: Totals) -> Ahead
         return Ahead::Stop(Stop::AtLimit);
     }
     let size = rest[0] as usize;
-    if rest.len() - 1 < size {
+    let there = rest.len() - 1;
+    if there < size {
         return Ahead::Stop(Stop::AtCut);
     }
     if room < LINE_ROOM {

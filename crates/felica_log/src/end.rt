@@ -1,6 +1,5 @@
 // The lines behind the last record.
 ghost use mathlib.Core.Path.{_≡_};
-ghost use mathlib.Core.List.{_++_};
 ghost use Rattle.felica_put.specs.Put.{buffer, put};
 ghost use Rattle.felica_log.specs.Listing.{numberField, cutLine, totalLine, recordsLeft};
 ghost use Rattle.felica_log.specs.Step.{restLine, endText};

@@ -46,16 +46,18 @@ pub fn count(totals: Totals, accepted: bool, blocks: usize) -> Totals
     if !totals.has_room(blocks) {
         return totals;
     }
+    let records = totals.records + 1;
+    let sum = totals.blocks + blocks;
     if accepted {
         Totals {
-            records: totals.records + 1,
+            records: records,
             accepted: totals.accepted + 1,
             refused: totals.refused,
-            blocks: totals.blocks + blocks,
+            blocks: sum,
         }
     } else {
         Totals {
-            records: totals.records + 1,
+            records: records,
             accepted: totals.accepted,
             refused: totals.refused + 1,
             blocks: totals.blocks,

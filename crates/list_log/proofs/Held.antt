@@ -1,6 +1,6 @@
 -- Steps over the bytes held, one behind another, and the rest of them moved to the front.
 -- Assumes nothing.
-use Prim.Native.Nat.{ℕ, zero, suc, _+_, _-_, _≤_, _<_}
+use Prim.Native.Nat.{ℕ, zero, suc, _+_, _-_, _≤_}
 use native.Mathlib.Nat.{zero-add, sub-zero}
 use native.Mathlib.Omega.{arith}
 use mathlib.Core.Path.{_≡_, refl, sym, ap, _∙_, subst}
@@ -17,7 +17,7 @@ use Rattle.felica_log.specs.Listing.{nothing, frameThen, front, recordsLeft, li
 use Rattle.felica_log.specs.Step.{Reached, reached, roomForLine, step}
 use Rattle.felica_log.specs.Rules.{lines, Sound, NoneLeft}
 use Rattle.felica_log.proofs.Rules.{step-lists, step-inside, sound-kept, none-before}
-use Rattle.list_log.specs.Held.{Along, AllListed, RestKept, over}
+use Rattle.list_log.specs.Held.{Along, RestKept, over}
 
 -- one step more
 module _ (b : Buffer) (u : Totals) (piece : List ℕ) {out : Buffer} {v : Totals} {n : ℕ} {stop : Stop} (e : reached out v n stop ≡ step b u piece) where

@@ -1,15 +1,15 @@
 -- What the program has listed of the bytes that it holds. Of the bytes that a read brings and of what becomes of those written, the system's contracts say nothing;
 -- these definitions say what is proved between them.
 -- Assumes nothing.
-use Prim.Native.Nat.{ℕ, _≤_, _<_}
+use Prim.Native.Nat.{ℕ}
 use mathlib.Core.Path.{_≡_}
-use mathlib.Core.Bool.{Bool, false, not, _||_, _&&_}
+use mathlib.Core.Bool.{Bool, _||_, _&&_}
 use mathlib.Core.List.{List, _++_}
 use lib.Dec.{ltb, leb}
-use lib.ListN.{length, take, drop}
+use lib.ListN.{drop}
 use Rattle.felica_totals.specs.declared.Totals.{Totals}
 use Rattle.felica_log.specs.Listing.{recordsLeft, listingFrom}
-use Rattle.felica_log.specs.Rules.{Sound, NoneLeft}
+use Rattle.felica_log.specs.Rules.{NoneLeft}
 
 -- So many bytes of those held are listed, and the totals went from t to u: what is left of a listing is that of the rest.
 pub record Along (t : Totals) (held : List ℕ) (u : Totals) (used : ℕ) : Type 0 where

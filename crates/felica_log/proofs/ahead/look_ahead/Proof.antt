@@ -20,8 +20,8 @@ shared-slice-read-size c = search needs
 cast-size : tie.Need-cast-size
 cast-size c = omega (arith, c .shared-slice-known2 .given 0)
 
-sub-if3 : tie.Need-sub-if3
-sub-if3 c = search needs
+sub-there : tie.Need-sub-there
+sub-there c = search needs
 
 returns-3 : tie.Need-returns-3
 returns-3 c = let a = c .before .before .before .before .before .before .args in rw (ahead-some (a .rest .now) (a .room) (a .totals) (c .before .before .before .before .if1 .left), lt-leb _ _ (c .before .before .if2 .left), lt-ltb _ _ (c .if3 .taken))
@@ -49,7 +49,7 @@ look-ahead-spec =
     returns-2
     shared-slice-read-size
     cast-size
-    sub-if3
+    sub-there
     returns-3
     returns-4
     cast-has-room
