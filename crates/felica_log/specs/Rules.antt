@@ -96,7 +96,7 @@ abbrev pub act : State → Action → State
 act s (reads piece) = state (s .written) (s .totals) (s .held ++ piece)
 act s (steps b) = stepped s b (step b (s .totals) (s .held))
 
--- the actions are in order, the last first
+-- the state after some actions; the list has the last of them first
 abbrev pub after : List Action → State
 after [] = state [] noTotals []
 after (a ∷ before) = act (after before) a

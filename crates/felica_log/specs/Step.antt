@@ -28,8 +28,8 @@ reached out totals used stop = record { out = out; totals = totals; used = used;
 abbrev pub roomForLine : Buffer → Bool
 roomForLine b = leb 128 (length (b .bytes) - b .next)
 
--- From the rest s of the piece on, `used` bytes of which are listed; n more records may be read. It stops exactly where nothing is left, n is 0, the
--- record is cut off, the buffer lacks the room, or the totals do.
+-- The step from where `used` bytes of the piece are listed and s is the rest of it, when n more records may be read. It stops exactly where nothing is left, n is 0,
+-- the record is cut off, the buffer lacks the room, or the totals do.
 unfoldable pub stepFrom : ℕ → Buffer → Totals → ℕ → List ℕ → Reached
 stepFrom zero b t used s = reached b t used (atFront (front s) AtEnd (λ missing. AtLimit) (λ frame rest. AtLimit))
 stepFrom (suc n) b t used s =
