@@ -1,7 +1,7 @@
 -- How a step came where it stopped: the text that it put, the bytes that it listed, and what holds there. One induction over the records that may be read.
 -- Assumes nothing.
 use Prim.Native.Nat.{ℕ, zero, suc, _+_, _-_, _≤_, _<_}
-use native.Mathlib.Numerals.{add-one}
+use native.Mathlib.Nat.{add-comm}
 use native.Mathlib.Omega.{arith}
 use mathlib.Core.Path.{_≡_, refl, sym, ap, _∙_, subst}
 use mathlib.Core.Logic.{_⊎_, inl, inr}
@@ -55,30 +55,14 @@ listing-next : (t : Totals) (s behind : List ℕ) (space size : ℕ) → Lists s
     ≡ recordLine (t .records + 1) (readFrame (take size (drop 1 s)))
     ++ listingFrom (recordsLeft (countedAs t (readFrame (take size (drop 1 s))))) (countedAs t (readFrame (take size (drop 1 s)))) (drop (size + 1) s ++ behind)
 unfolding listingFrom
-listing-next t [] behind space size l = absurd (let h = l .whole in omega arith)
-listing-next t (x ∷ s) behind space size l =
-    subst (λ (n : ℕ). listingFrom (recordsLeft t) t ((x ∷ s) ++ behind)
-    ≡ recordLine (t .records + 1) (readFrame (take n s))
-    ++ listingFrom (recordsLeft (countedAs t (readFrame (take n s)))) (countedAs t (readFrame (take n s))) (drop (n + 1) (x ∷ s) ++ behind)) (l .first) here
-  where
-    long : x ≤ length s
-    long = let h = l .whole in let q : x ≡ size = l .first in omega arith
-
-    more : x ≤ length (s ++ behind)
-    more = rw (length-append s behind) (let h = long in omega arith)
-
-    here : listingFrom (recordsLeft t) t ((x ∷ s) ++ behind)
-        ≡ recordLine (t .records + 1) (readFrame (take x s))
-        ++ listingFrom (recordsLeft (countedAs t (readFrame (take x s)))) (countedAs t (readFrame (take x s))) (drop (x + 1) (x ∷ s) ++ behind)
-    here =
-        rw (
-          one-left t (l .few),
-          front-whole x (s ++ behind) more,
-          take-append-le x s behind long,
-          drop-append-le x s behind long,
-          counted-records t (isAccepted (readFrame (take x s))) (blocksIn (readFrame (take x s))),
-          add-one x,
-        )
+listing-next t s behind space size l =
+    let rest = drop 1 s in
+    let long : size ≤ length rest = omega (arith, l .whole, ap length (l .is)) in
+    let more : size ≤ length (rest ++ behind) = rw (length-append rest behind) (omega arith) in
+    let left = counted-records t (isAccepted (readFrame (take size rest))) (blocksIn (readFrame (take size rest))) in
+    let behind-it : drop (size + 1) s ≡ drop size rest = ap (λ (n : ℕ). drop n s) (add-comm size 1) ∙ sym (drop-drop size 1 s) in
+    ap (λ (m : List ℕ). listingFrom (recordsLeft t) t (m ++ behind)) (l .is)
+    ∙ rw (one-left t (l .few), front-whole size (rest ++ behind) more, take-append-le size rest behind long, drop-append-le size rest behind long, left, behind-it)
 
 counted-sound : (t : Totals) (frame : List ℕ) → t .records < 1000000 → Sound t → Sound (countedAs t (readFrame frame))
 counted-sound t frame few s = go (isAccepted (readFrame frame)) (blocksIn (readFrame frame)) (blocks-few frame)

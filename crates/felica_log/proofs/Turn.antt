@@ -1,6 +1,7 @@
 -- A turn of the loop that lists a piece: what stands ahead decides whether the step stops or lists one more record.
 -- Assumes nothing.
 use Prim.Native.Nat.{ℕ, zero, suc, _+_, _-_, _≤_, _<_, _^_}
+use native.Mathlib.Nat.{add-comm}
 use native.Mathlib.Numerals.{add-one}
 use native.Mathlib.Omega.{arith}
 use mathlib.Core.Path.{_≡_, refl, sym, ap, _∙_, subst}
@@ -83,7 +84,7 @@ step-stopped b t used (x ∷ s) {stop} e =
 pub record Lists (s : List ℕ) (space : ℕ) (t : Totals) (size : ℕ) : Type 0 where
   pub few : t .records < 1000000
   pub whole : size < length s
-  pub first : getD s 0 0 ≡ size
+  pub is : s ≡ size ∷ drop 1 s
   pub line : 128 ≤ space
   pub counts : hasRoom t 255 ≡ true
 
@@ -101,7 +102,7 @@ frame-ahead (x ∷ s) space t {size} e = go (leb 1000000 (t .records)) refl (ltb
     go false l false c false r true f e = record {
       few = leb-false _ _ l;
       whole = let h : x ≤ length s = ltb-false _ _ c in let q = frame-is e in omega arith;
-      first = frame-is e;
+      is = ap (λ (n : ℕ). n ∷ s) (frame-is e);
       line = ltb-false _ _ r;
       counts = f;
     }
@@ -123,44 +124,31 @@ counted-records t true blocks = refl
 counted-records t false blocks = refl
 
 -- one more record
-listed-next : (b : Buffer) (t : Totals) (used x : ℕ) (s : List ℕ) → Lists (x ∷ s) (length (b .bytes) - b .next) t x
-    → stepFrom (recordsLeft t) b t used (x ∷ s)
-    ≡ stepFrom (recordsLeft (countedAs t (readFrame (take x s)))) (put b (recordLine (t .records + 1) (readFrame (take x s)))) (countedAs t (readFrame (take x s)))
-    (used + (x + 1)) (drop x s)
+listed-next : (b : Buffer) (t : Totals) (used size : ℕ) (s : List ℕ) → Lists (size ∷ s) (length (b .bytes) - b .next) t size
+    → stepFrom (recordsLeft t) b t used (size ∷ s)
+    ≡ stepFrom (recordsLeft (countedAs t (readFrame (take size s)))) (put b (recordLine (t .records + 1) (readFrame (take size s)))) (countedAs t (readFrame (take size s)))
+    (used + (size + 1)) (drop size s)
 unfolding stepFrom
-listed-next b t used x s l =
-    let long : x ≤ length s = (let h = l .whole in omega arith) in
-    let behind : suc (length (take x s)) ≡ x + 1 = ap suc (length-take-le x s long) ∙ sym (add-one x) in
-    let left = counted-records t (isAccepted (readFrame (take x s))) (blocksIn (readFrame (take x s))) in
-    rw (one-left t (l .few), front-whole x s long, le-leb 128 (length (b .bytes) - b .next) (l .line), l .counts, left, behind)
+listed-next b t used size s l =
+    let long : size ≤ length s = (let h = l .whole in omega arith) in
+    let behind : suc (length (take size s)) ≡ size + 1 = ap suc (length-take-le size s long) ∙ sym (add-one size) in
+    let left = counted-records t (isAccepted (readFrame (take size s))) (blocksIn (readFrame (take size s))) in
+    rw (one-left t (l .few), front-whole size s long, le-leb 128 (length (b .bytes) - b .next) (l .line), l .counts, left, behind)
 
 pub step-listed : (b : Buffer) (t : Totals) (used : ℕ) (s : List ℕ) (size : ℕ) {c : Buffer} {u : Totals} → Lists s (length (b .bytes) - b .next) t size
     → c ≡ put b (recordLine (t .records + 1) (readFrame (take size (drop 1 s))))
     → u ≡ countedWithin t (isAccepted (readFrame (take size (drop 1 s)))) (blocksIn (readFrame (take size (drop 1 s))))
     → stepFrom (recordsLeft t) b t used s ≡ stepFrom (recordsLeft u) c u (used + (size + 1)) (drop (size + 1) s)
-step-listed b t used [] size l e q = absurd (let h = l .whole in omega arith)
-step-listed b t used (x ∷ s) size {c} {u} l e q = at-size size (l .first) l e q
-  where
-    at-size : (n : ℕ) → x ≡ n → Lists (x ∷ s) (length (b .bytes) - b .next) t n → c ≡ put b (recordLine (t .records + 1) (readFrame (take n s)))
-        → u ≡ countedWithin t (isAccepted (readFrame (take n s))) (blocksIn (readFrame (take n s)))
-        → stepFrom (recordsLeft t) b t used (x ∷ s) ≡ stepFrom (recordsLeft u) c u (used + (n + 1)) (drop (n + 1) (x ∷ s))
-    at-size n is l e q =
-        subst (λ (k : ℕ). Lists (x ∷ s) (length (b .bytes) - b .next) t k → c ≡ put b (recordLine (t .records + 1) (readFrame (take k s)))
-        → u ≡ countedWithin t (isAccepted (readFrame (take k s))) (blocksIn (readFrame (take k s)))
-        → stepFrom (recordsLeft t) b t used (x ∷ s) ≡ stepFrom (recordsLeft u) c u (used + (k + 1)) (drop (k + 1) (x ∷ s))) is
-        (λ l e q. listed-next b t used x s l ∙ sym (turned l e q)) l e q
-      where
-        turned : Lists (x ∷ s) (length (b .bytes) - b .next) t x → c ≡ put b (recordLine (t .records + 1) (readFrame (take x s)))
-            → u ≡ countedWithin t (isAccepted (readFrame (take x s))) (blocksIn (readFrame (take x s)))
-            → stepFrom (recordsLeft u) c u (used + (x + 1)) (drop (x + 1) (x ∷ s))
-            ≡ stepFrom (recordsLeft (countedAs t (readFrame (take x s)))) (put b (recordLine (t .records + 1) (readFrame (take x s)))) (countedAs t (readFrame (take x s)))
-            (used + (x + 1)) (drop x s)
-        turned l e q =
-            let after : u ≡ countedAs t (readFrame (take x s)) = q ∙ counted-frame t (take x s) (l .counts) in
-            let rest : drop (x + 1) (x ∷ s) ≡ drop x s = ap (λ (k : ℕ). drop k (x ∷ s)) (add-one x) in
-            ap (λ (l : List ℕ). stepFrom (recordsLeft u) c u (used + (x + 1)) l) rest
-            ∙ ap (λ (d : Buffer). stepFrom (recordsLeft u) d u (used + (x + 1)) (drop x s)) e
-            ∙ ap (λ (v : Totals). stepFrom (recordsLeft v) (put b (recordLine (t .records + 1) (readFrame (take x s)))) v (used + (x + 1)) (drop x s)) after
+step-listed b t used s size {c} {u} l e q =
+    let frame = take size (drop 1 s) in
+    let line = recordLine (t .records + 1) (readFrame frame) in
+    let counts : countedAs t (readFrame frame) ≡ u = sym (q ∙ counted-frame t frame (l .counts)) in
+    let rest : drop size (drop 1 s) ≡ drop (size + 1) s = drop-drop size 1 s ∙ ap (λ (n : ℕ). drop n s) (add-comm 1 size) in
+    ap (stepFrom (recordsLeft t) b t used) (l .is)
+    ∙ listed-next b t used size (drop 1 s) (subst (λ (m : List ℕ). Lists m (length (b .bytes) - b .next) t size) (l .is) l)
+    ∙ ap (λ (v : Totals). stepFrom (recordsLeft v) (put b line) v (used + (size + 1)) (drop size (drop 1 s))) counts
+    ∙ ap (λ (d : Buffer). stepFrom (recordsLeft u) d u (used + (size + 1)) (drop size (drop 1 s))) (sym e)
+    ∙ ap (stepFrom (recordsLeft u) c u (used + (size + 1))) rest
 
 -- the rest of a piece
 pub rest-is : (piece : List ℕ) (used : ℕ) → used < length piece → take (length piece - used) (drop used piece) ≡ drop used piece
