@@ -23,7 +23,7 @@ unfoldable pub markField : List ℕ → List ℕ
 markField [] = text "-"
 markField (code ∷ codes) = marksText (code ∷ codes)
 
--- "areas and services together", in field order; of every other command one of the two lists is empty
+-- "areas and services together", in field order; only Authentication1 has a second list
 abbrev pub listedCodes : Command → List ℕ
 listedCodes c = c .first ++ c .second
 

@@ -8,7 +8,7 @@ use Rattle.felica_format.specs.Read.{readElements, readData, readValues, readEn
 use Rattle.felica_text.specs.Text.{decimalDigits, decimalText}
 use Rattle.felica_line.specs.Line.{marksText, markField, acceptedText, recordLine}
 use Rattle.felica_log.specs.Listing.{front, totalLine, listingFrom, listing}
-use Rattle.felica_log.specs.Examples.{AllListed, samples}
+use Rattle.felica_log.specs.Examples.{AllSamplesListed, samples}
 
 -- opens all that reading and listing are made of
 reading : Unit {0}
@@ -19,6 +19,6 @@ lining : Unit {0}
 unfolding decimalText decimalDigits marksText markField acceptedText recordLine front totalLine listingFrom listing
 lining = tt
 
-pub samples-listed : AllListed samples
+pub samples-listed : AllSamplesListed samples
 unfolding samples reading lining
 samples-listed = (refl, (refl, (refl, (refl, tt))))

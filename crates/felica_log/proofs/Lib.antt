@@ -1,5 +1,5 @@
-pub mod Came
 pub mod Examples
 pub mod Front
 pub mod Rules
+pub mod StepResult
 pub mod Turn

@@ -7,11 +7,10 @@ use mathlib.Core.Logic.{_⊎_, inl, inr}
 use mathlib.Core.Bool.{Bool, true, false, cond, true≢false}
 use mathlib.Core.List.{List, [], _∷_, _++_, append-assoc, append-nil}
 use lib.Dec.{leb}
-use lib.ListN.{length, take, drop, length-append}
+use lib.ListN.{length, getD, take, drop, length-append}
 use lib.Seq.{length-take-le, take-all, take-append-le, take-append-seam, drop-append-seam}
 use borrow.Author.Tests.{lt-ltb, ltb-true}
 use Rattle.felica_format.specs.Read.{readFrame}
-use Rattle.felica_format.specs.Basic.{Bytes}
 use Rattle.felica_format.proofs.Tests.{and-left, and-both}
 use Rattle.felica_put.specs.Put.{Buffer, put}
 use Rattle.felica_put.proofs.Laws.{put-room, kept}
@@ -27,7 +26,7 @@ use Rattle.felica_log.specs.Step.{roomForLine, step, restLine, endText}
 use Rattle.felica_log.specs.Rules.{lines, StepLists, StepKeeps, StepInside, Stopped, StopsExactly, SoundStart, SoundKept, SoundRoom, NoneLeft, NoneBefore, EndFits}
 use Rattle.felica_log.specs.Rules.{reads, steps, after, allRead, PiecesListed, EndListed, FullListed}
 use Rattle.felica_log.proofs.Front.{none-left}
-use Rattle.felica_log.proofs.Came.{Came, came}
+use Rattle.felica_log.proofs.StepResult.{StepResult, step-result}
 
 -- a text that found room stands where it was put, and what lies before and behind it is as it was
 between : (b : Buffer) (text : List ℕ) → (b .next + length text ≤ length (b .bytes)) ⊎ (text ≡ []) → take (put b text .next - b .next) (drop (b .next) (put b text .bytes)) ≡ text
@@ -57,32 +56,32 @@ before b text (inl h) =
 before b text (inr e) = rw e
 
 module _ (b : Buffer) (t : Totals) (piece : List ℕ) where
-  step-came : Came b t 0 piece (step b t piece)
-  step-came = came (recordsLeft t) b t 0 piece refl
+  result : StepResult b t 0 piece (step b t piece)
+  result = step-result (recordsLeft t) b t 0 piece refl
 
-  used-far : step b t piece .used ≡ step-came .far
-  used-far = step-came .uses ∙ omega arith
+  used-far : step b t piece .used ≡ result .far
+  used-far = result .uses ∙ omega arith
 
-  lines-text : lines b (step b t piece) ≡ step-came .text
-  lines-text = ap (λ (x : Buffer). take (x .next - b .next) (drop (b .next) (x .bytes))) (step-came .puts) ∙ between b (step-came .text) (step-came .room)
+  lines-text : lines b (step b t piece) ≡ result .text
+  lines-text = ap (λ (x : Buffer). take (x .next - b .next) (drop (b .next) (x .bytes))) (result .puts) ∙ between b (result .text) (result .room)
 
 pub step-lists : StepLists
 step-lists b t piece behind =
-    let c = step-came b t piece in
+    let c = result b t piece in
     c .lists behind
     ∙ ap (λ (x : List ℕ). x ++ listingFrom (recordsLeft (step b t piece .totals)) (step b t piece .totals) (drop (c .far) piece ++ behind)) (sym (lines-text b t piece))
     ∙ ap (λ (n : ℕ). lines b (step b t piece) ++ listingFrom (recordsLeft (step b t piece .totals)) (step b t piece .totals) (drop n piece ++ behind)) (sym (used-far b t piece))
 
 pub step-keeps : StepKeeps
 step-keeps b t piece =
-    let c = step-came b t piece in (
+    let c = result b t piece in (
       ap (λ (x : Buffer). take (b .next) (x .bytes)) (c .puts) ∙ before b (c .text) (c .room),
       subst (λ (x : Buffer). drop (x .next) (x .bytes) ≡ drop (x .next) (b .bytes)) (sym (c .puts)) (kept b (c .text) .behind (put b (c .text) .next) (omega arith)),
     )
 
 pub step-inside : StepInside
 step-inside b t piece =
-    let c = step-came b t piece in (
+    let c = result b t piece in (
       omega (arith, c .inside, used-far b t piece),
       λ h. subst (λ (x : Buffer). x .next ≤ length (x .bytes)) (sym (c .puts)) (kept b (c .text) .within h),
       λ e. c .still (sym (used-far b t piece) ∙ e),
@@ -90,21 +89,21 @@ step-inside b t piece =
 
 pub stops-exactly : StopsExactly
 stops-exactly b t piece =
-    subst (λ (n : ℕ). Stopped (step b t piece .stop) (step b t piece .out) (step b t piece .totals) (drop n piece)) (sym (used-far b t piece)) (step-came b t piece .stopped)
+    subst (λ (n : ℕ). Stopped (step b t piece .stop) (step b t piece .out) (step b t piece .totals) (drop n piece)) (sym (used-far b t piece)) (result b t piece .stopped)
 
 pub sound-start : SoundStart
-sound-start = record { records = omega arith; accepted = omega arith; refused = omega arith; blocks = omega arith }
+sound-start = record { few = omega arith; records = omega arith; blocks = omega arith }
 
 pub sound-kept : SoundKept
-sound-kept b t piece = step-came b t piece .sound
+sound-kept b t piece = result b t piece .sound
 
 pub sound-room : SoundRoom
 unfolding hasRoom
 sound-room t s =
-    and-both (lt-ltb (t .records + 1) (2 ^ 64) (omega (arith, s .records)))
-    (and-both (lt-ltb (t .accepted + 1) (2 ^ 64) (omega (arith, s .records, s .accepted)))
-    (and-both (lt-ltb (t .refused + 1) (2 ^ 64) (omega (arith, s .records, s .refused)))
-    (lt-ltb (t .blocks + 255) (2 ^ 64) (omega (arith, s .records, s .blocks)))))
+    and-both (lt-ltb (t .records + 1) (2 ^ 64) (omega (arith, s .few)))
+    (and-both (lt-ltb (t .accepted + 1) (2 ^ 64) (omega (arith, s .few, s .records)))
+    (and-both (lt-ltb (t .refused + 1) (2 ^ 64) (omega (arith, s .few, s .records)))
+    (lt-ltb (t .blocks + 255) (2 ^ 64) (omega (arith, s .few, s .records, s .blocks)))))
 
 nothing-whole : {frame rest : List ℕ} → nothing ≡ frameThen frame rest → ⊥
 nothing-whole e = let z : _≡_ {A = ℕ} 0 1 = cc in omega arith
@@ -117,8 +116,8 @@ unfolding front
 stop-none AtEnd b t rest none room totals frame r e = absurd (nothing-whole (sym (ap front none) ∙ e))
 stop-none AtLimit b t rest (full, some) room totals frame r e = full
 stop-none AtCut b t rest (few, (missing, cut)) room totals frame r e = absurd (cut-whole (sym cut ∙ e))
-stop-none NoRoom b t rest none room totals frame r e = absurd (true≢false (sym room ∙ none))
-stop-none TotalsFull b t rest none room totals frame r e = absurd (true≢false (sym totals ∙ none))
+stop-none NoRoom b t rest (whole, none) room totals frame r e = absurd (true≢false (sym room ∙ none))
+stop-none TotalsFull b t rest (whole, space, none) room totals frame r e = absurd (true≢false (sym totals ∙ none))
 
 pub none-before : NoneBefore
 none-before b t piece s room e =
@@ -130,7 +129,7 @@ none-before b t piece s room e =
 cut-length : (missing : ℕ) → missing < 256 → length (cutLine missing) ≤ 8
 cut-length missing h = let digits = decimal-length 2 missing (omega arith) in simp length-append (omega arith)
 
-rest-length : (n : ℕ) (rest : List ℕ) → Bytes rest → length (restLine n rest) ≤ 8
+rest-length : (n : ℕ) (rest : List ℕ) → getD rest 0 0 < 256 → length (restLine n rest) ≤ 8
 unfolding front
 rest-length zero [] small = omega arith
 rest-length zero (x ∷ s) small = omega arith
@@ -139,16 +138,16 @@ rest-length (suc n) (x ∷ s) small = go (leb x (length s))
   where
     go : (whole : Bool) → length (atFront (cond whole (frameThen (take x s) (drop x s)) (cutBy (x - length s))) [] cutLine (λ frame rest. [])) ≤ 8
     go true = omega arith
-    go false = let h : x < 256 = ltb-true x 256 (and-left _ _ small) in cut-length (x - length s) (omega arith)
+    go false = cut-length (x - length s) (omega (arith, small))
 
 pub end-fits : EndFits
 unfolding endText totalLine
 end-fits t rest s small =
     let before = rest-length (recordsLeft t) rest small in
-    let records = decimal-length 6 (t .records) (omega (arith, s .records)) in
-    let accepted = decimal-length 6 (t .accepted) (omega (arith, s .records, s .accepted)) in
-    let refused = decimal-length 6 (t .refused) (omega (arith, s .records, s .refused)) in
-    let blocks = decimal-length 8 (t .blocks) (omega (arith, s .records, s .blocks)) in
+    let records = decimal-length 6 (t .records) (omega (arith, s .few)) in
+    let accepted = decimal-length 6 (t .accepted) (omega (arith, s .few, s .records)) in
+    let refused = decimal-length 6 (t .refused) (omega (arith, s .few, s .records)) in
+    let blocks = decimal-length 8 (t .blocks) (omega (arith, s .few, s .records, s .blocks)) in
     simp length-append (omega arith)
 
 pub pieces-listed : PiecesListed

@@ -11,11 +11,13 @@ use Rattle.felica_totals.specs.Count.{hasRoom}
 use Rattle.felica_log.specs.declared.Stop.the-variants.{AtEnd, AtLimit, AtCut, NoRoom, TotalsFull}
 use Rattle.felica_log.specs.declared.ahead.Ahead.{Ahead}
 use Rattle.felica_log.specs.declared.ahead.Ahead.the-variants.{Frame, Stop}
+use Rattle.felica_log.specs.Listing.{maxRecords}
+use Rattle.felica_log.specs.Step.{lineRoom, maxBlocks}
 
 unfoldable pub aheadOf : List ℕ → ℕ → Totals → Ahead
 aheadOf [] room t = Stop AtEnd
 aheadOf (size ∷ s) room t =
-    cond (leb 1000000 (t .records)) (Stop AtLimit)
+    cond (leb maxRecords (t .records)) (Stop AtLimit)
     (cond (ltb (length s) size) (Stop AtCut)
-    (cond (ltb room 128) (Stop NoRoom)
-    (cond (hasRoom t 255) (Frame size) (Stop TotalsFull))))
+    (cond (ltb room lineRoom) (Stop NoRoom)
+    (cond (hasRoom t maxBlocks) (Frame size) (Stop TotalsFull))))

@@ -63,8 +63,11 @@ listingFrom (suc n) t s =
     (λ frame rest. recordLine (t .records + 1) (readFrame frame) ++ listingFrom n (countedAs t (readFrame frame)) rest)
 
 -- "After 1,000,000 records reading stops"
+abbrev pub maxRecords : ℕ
+maxRecords = 1000000
+
 abbrev pub recordsLeft : Totals → ℕ
-recordsLeft t = 1000000 - t .records
+recordsLeft t = maxRecords - t .records
 
 -- the listing of a log
 unfoldable pub listing : List ℕ → List ℕ

@@ -4,15 +4,14 @@ use Prim.Native.Nat.{ℕ, _+_, _-_, _*_, _≤_, _<_}
 use mathlib.Core.Path.{_≡_}
 use mathlib.Core.Bool.{true, false}
 use mathlib.Core.List.{List, [], _∷_, _++_}
-use lib.ListN.{length, take, drop}
-use Rattle.felica_format.specs.Basic.{Bytes}
+use lib.ListN.{length, getD, take, drop}
 use Rattle.felica_put.specs.Put.{Buffer}
 use Rattle.felica_totals.specs.declared.Totals.{Totals}
 use Rattle.felica_totals.specs.Count.{noTotals, hasRoom}
 use Rattle.felica_log.specs.declared.Stop.{Stop}
 use Rattle.felica_log.specs.declared.Stop.the-variants.{AtEnd, AtLimit, AtCut, NoRoom, TotalsFull}
-use Rattle.felica_log.specs.Listing.{cutBy, frameThen, front, recordsLeft, listingFrom, listing}
-use Rattle.felica_log.specs.Step.{Reached, roomForLine, step, endText}
+use Rattle.felica_log.specs.Listing.{cutBy, frameThen, front, maxRecords, recordsLeft, listingFrom, listing}
+use Rattle.felica_log.specs.Step.{Reached, lineRoom, maxBlocks, roomForLine, step, endText}
 
 -- the bytes that a step has put behind those that the buffer held
 abbrev pub lines : Buffer → Reached → List ℕ
@@ -36,24 +35,27 @@ StepInside = (b : Buffer) (t : Totals) (piece : List ℕ)
     → (step b t piece .used ≤ length piece) × (b .next ≤ length (b .bytes) → step b t piece .out .next ≤ length (step b t piece .out .bytes))
     × (step b t piece .used ≡ 0 → step b t piece .out ≡ b)
 
--- What holds in front of the rest of the piece where a step stops. In front of a whole record it never stops while there is room.
+-- a whole record that may be read stands at the front
+abbrev pub WholeAhead : Totals → List ℕ → Type 0
+WholeAhead t s = (t .records < maxRecords) × ((frame : List ℕ) × (rest : List ℕ) × (front s ≡ frameThen frame rest))
+
+-- What holds in front of the rest of the piece where a step stops. Before a whole record that may be read it stops only where room is lacking.
 abbrev pub Stopped : Stop → Buffer → Totals → List ℕ → Type 0
 Stopped AtEnd b t rest = rest ≡ []
-Stopped AtLimit b t rest = (1000000 ≤ t .records) × (rest ≡ [] → ⊥)
-Stopped AtCut b t rest = (t .records < 1000000) × ((missing : ℕ) × (front rest ≡ cutBy missing))
-Stopped NoRoom b t rest = roomForLine b ≡ false
-Stopped TotalsFull b t rest = hasRoom t 255 ≡ false
+Stopped AtLimit b t rest = (maxRecords ≤ t .records) × (rest ≡ [] → ⊥)
+Stopped AtCut b t rest = (t .records < maxRecords) × ((missing : ℕ) × (front rest ≡ cutBy missing))
+Stopped NoRoom b t rest = WholeAhead t rest × (roomForLine b ≡ false)
+Stopped TotalsFull b t rest = WholeAhead t rest × (roomForLine b ≡ true) × (hasRoom t maxBlocks ≡ false)
 
 abbrev pub StopsExactly : Type 0
 StopsExactly = (b : Buffer) (t : Totals) (piece : List ℕ)
     → Stopped (step b t piece .stop) (step b t piece .out) (step b t piece .totals) (drop (step b t piece .used) piece)
 
--- Totals that records can have made: then they have room for one more.
+-- Totals as records make them, which have room for one more.
 pub record Sound (t : Totals) : Type 0 where
-  pub records : t .records ≤ 1000000
-  pub accepted : t .accepted ≤ t .records
-  pub refused : t .refused ≤ t .records
-  pub blocks : t .blocks ≤ 255 * t .records
+  pub few : t .records ≤ maxRecords
+  pub records : t .accepted + t .refused ≡ t .records
+  pub blocks : t .blocks ≤ maxBlocks * t .accepted
 
 abbrev pub SoundStart : Type 0
 SoundStart = Sound noTotals
@@ -62,11 +64,11 @@ abbrev pub SoundKept : Type 0
 SoundKept = (b : Buffer) (t : Totals) (piece : List ℕ) → Sound t → Sound (step b t piece .totals)
 
 abbrev pub SoundRoom : Type 0
-SoundRoom = (t : Totals) → Sound t → hasRoom t 255 ≡ true
+SoundRoom = (t : Totals) → Sound t → hasRoom t maxBlocks ≡ true
 
 -- no whole record that may still be read stands at the front
 abbrev pub NoneLeft : Totals → List ℕ → Type 0
-NoneLeft t s = (frame rest : List ℕ) → front s ≡ frameThen frame rest → 1000000 ≤ t .records
+NoneLeft t s = (frame rest : List ℕ) → front s ≡ frameThen frame rest → maxRecords ≤ t .records
 
 -- A step that has room for a line and uses nothing has no whole record before it.
 abbrev pub NoneBefore : Type 0
@@ -74,7 +76,7 @@ NoneBefore = (b : Buffer) (t : Totals) (piece : List ℕ) → Sound t → roomFo
 
 -- The room that a step asks for is enough for the lines behind the records, too.
 abbrev pub EndFits : Type 0
-EndFits = (t : Totals) (rest : List ℕ) → Sound t → Bytes rest → length (endText t rest) ≤ 128
+EndFits = (t : Totals) (rest : List ℕ) → Sound t → getD rest 0 0 < 256 → length (endText t rest) ≤ lineRoom
 
 -- What a program does: it reads one more piece of the log behind what it holds, or makes a step over what it holds, into some buffer, and writes the lines.
 pub data Action : Type 0 where
@@ -119,5 +121,5 @@ EndListed = (actions : List Action) → NoneLeft (after actions .totals) (after 
 
 -- "After 1,000,000 records reading stops, with the line FULL if a byte follows": whatever else follows it.
 abbrev pub FullListed : Type 0
-FullListed = (actions : List Action) (behind : List ℕ) → 1000000 ≤ after actions .totals .records → (after actions .held ≡ [] → ⊥)
+FullListed = (actions : List Action) (behind : List ℕ) → maxRecords ≤ after actions .totals .records → (after actions .held ≡ [] → ⊥)
     → listing (allRead actions ++ behind) ≡ after actions .written ++ endText (after actions .totals) (after actions .held)

@@ -1,7 +1,7 @@
 -- A step over a piece of a log: it lists the whole records of the piece into a lent buffer, as far as it comes.
 -- Assumes nothing.
 use Prim.Native.Nat.{ℕ, zero, suc, _+_, _-_}
-use mathlib.Core.Bool.{Bool, cond}
+use mathlib.Core.Bool.{Bool, true, false, cond}
 use mathlib.Core.List.{List, [], _++_}
 use lib.Dec.{leb}
 use lib.ListN.{length}
@@ -24,9 +24,24 @@ pub record Reached : Type 0 where
 abbrev pub reached : Buffer → Totals → ℕ → Stop → Reached
 reached out totals used stop = record { out = out; totals = totals; used = used; stop = stop }
 
+-- whether a step stopped for want of room in the buffer: then there is more to list
+abbrev pub lacksRoom : Stop → Bool
+lacksRoom AtEnd = false
+lacksRoom AtLimit = false
+lacksRoom AtCut = false
+lacksRoom NoRoom = true
+lacksRoom TotalsFull = false
+
 -- the room that a step asks for before it lists a record: no line is longer
+abbrev pub lineRoom : ℕ
+lineRoom = 128
+
 abbrev pub roomForLine : Buffer → Bool
-roomForLine b = leb 128 (length (b .bytes) - b .next)
+roomForLine b = leb lineRoom (length (b .bytes) - b .next)
+
+-- the blocks that totals need room for: no block count is greater
+abbrev pub maxBlocks : ℕ
+maxBlocks = 255
 
 -- The step from where `used` bytes of the piece are listed and s is the rest of it, when n more records may be read. It stops exactly where nothing is left, n is 0,
 -- the record is cut off, the buffer lacks the room, or the totals do.
@@ -38,7 +53,7 @@ stepFrom (suc n) b t used s =
     (λ missing. reached b t used AtCut)
     (λ frame rest.
     cond (roomForLine b)
-    (cond (hasRoom t 255)
+    (cond (hasRoom t maxBlocks)
     (stepFrom n (put b (recordLine (t .records + 1) (readFrame frame))) (countedAs t (readFrame frame)) (used + suc (length frame)) rest)
     (reached b t used TotalsFull))
     (reached b t used NoRoom))

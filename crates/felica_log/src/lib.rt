@@ -1,4 +1,7 @@
 // Logs: a step over the whole records of a piece of a log, which lists them into a lent buffer, and the lines behind the last record.
+ghost use mathlib.Core.Path.{_≡_};
+ghost use Rattle.felica_log.specs.Step.{lacksRoom};
+
 mod ahead;
 pub mod end;
 pub mod step;
@@ -17,4 +20,19 @@ pub enum Stop {
     AtCut,
     NoRoom,
     TotalsFull,
+}
+
+impl Stop {
+    // Whether there is more to list, once what was put is out of the buffer.
+    pub fn lacks_room(self) -> bool
+        ensures { λ r. ⌜ r ≡ lacksRoom self ⌝ }
+    {
+        match self {
+            Self::AtEnd => false,
+            Self::AtLimit => false,
+            Self::AtCut => false,
+            Self::NoRoom => true,
+            Self::TotalsFull => false,
+        }
+    }
 }

@@ -7,6 +7,6 @@ use lib.Dec.{leb}
 use lib.ListN.{length, drop}
 use lib.Seq.{paste}
 
--- the bytes from one place to another at the front, and all else as it was; nothing moves where the bytes end before that
+-- the bytes from `from` up to `end` copied to the front, and all else as it was; unchanged where `end` is past the length
 unfoldable pub moved : List ℕ → ℕ → ℕ → List ℕ
 moved s from end = cond (leb end (length s)) (paste s 0 (drop from s) (end - from)) s

@@ -21,9 +21,10 @@ pub struct Output {
     pub failed: bool,
 }
 
-// Reads once behind the `held` bytes at the front of `input`, which keep their values. What is read, and whether that fails, is the system's.
+// Reads once behind the `held` bytes at the front of `input`, which keep their values; where there is no room behind them it reads nothing. What is read, how much,
+// and whether that fails, is the system's.
 pub fn read_more(input: &mut [u8], held: usize) -> Input
-    ensures { λ r. ⌜ (r .held ≤ length (now (input .exit))) × (held ≤ length (now (input .entry)) → held ≤ r .held) × (take held (now (input .exit)) ≡ take held (now (input .entry))) ⌝ }
+    ensures { λ r. ⌜ (r .held ≤ length (now (input .exit))) × (held ≤ length (now (input .entry)) → held ≤ r .held) × (take held (now (input .exit)) ≡ take held (now (input .entry))) × (length (now (input .entry)) ≤ held → (r .held ≡ length (now (input .entry))) × (r .failed ≡ false) × (now (input .exit) ≡ now (input .entry))) ⌝ }
 {
     if input.len() <= held {
         return Input {

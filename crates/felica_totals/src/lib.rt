@@ -40,7 +40,7 @@ impl Totals {
 }
 
 // The totals after one more record; where they have no room for it, as they were.
-pub fn count(totals: Totals, accepted: bool, blocks: usize) -> Totals
+fn count(totals: Totals, accepted: bool, blocks: usize) -> Totals
     ensures { λ r. ⌜ r ≡ countedWithin totals accepted blocks ⌝ }
 {
     if !totals.has_room(blocks) {
@@ -72,7 +72,7 @@ pub fn count_record(totals: &mut Totals, accepted: bool, blocks: usize)
     *totals = count(*totals, accepted, blocks);
 }
 
-// Lends totals of its own, so that a caller that holds them by value lends nothing.
+// The totals after one more record by way of `count_record`, so that a caller that holds them by value need not lend them.
 pub fn after_record(totals: Totals, accepted: bool, blocks: usize) -> Totals
     ensures { λ r. ⌜ r ≡ countedWithin totals accepted blocks ⌝ }
 {

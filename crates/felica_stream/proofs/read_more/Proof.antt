@@ -2,12 +2,13 @@
 -- Assumes nothing.
 use borrow.Author.Needs.{needs}
 use native.Mathlib.Omega.{arith}
+use mathlib.Core.Path.{refl}
 use Rattle.felica_stream.proofs.Held.{front-kept}
 use Rattle.felica_stream.proofs.read_more.Statement.{statement}
 use Rattle.felica_stream.proofs.read_more.Tie as tie
 
 returns : tie.Need-returns
-returns c = search needs
+returns c = (omega arith, λ h. h, refl, λ h. (refl, refl, refl))
 
 sub-part : tie.Need-sub-part
 sub-part c = search needs
@@ -36,6 +37,7 @@ returns-2 c =
       omega (arith, c .before .before .count .ensures .0, c .before .before .before .before .before .before .before .before .before .if1 .left),
       λ h. omega arith,
       front-kept (a .held) (a .input .now) _ (omega (arith, c .before .before .before .before .before .before .before .before .before .if1 .left)),
+      λ h. absurd (omega (arith, h, c .before .before .before .before .before .before .before .before .before .if1 .left)),
     )
 
 pub read-more-spec : {M : Type 1} → statement M

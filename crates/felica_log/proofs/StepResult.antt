@@ -1,4 +1,4 @@
--- How a step came where it stopped: the text that it put, the bytes that it listed, and what holds there. One induction over the records that may be read.
+-- What a step has done where it stopped: the text that it put, the bytes that it listed, and what holds there. One induction over the records that may be read.
 -- Assumes nothing.
 use Prim.Native.Nat.{ℕ, zero, suc, _+_, _-_, _≤_, _<_}
 use native.Mathlib.Nat.{add-comm}
@@ -10,7 +10,7 @@ use mathlib.Core.List.{List, [], _∷_, _++_, append-assoc, append-nil}
 use lib.Dec.{ltb, leb}
 use lib.ListN.{length, take, drop, length-append, length-drop}
 use lib.Seq.{take-append-le, drop-append-le, drop-drop}
-use borrow.Author.Tests.{ltb-true, leb-true, leb-false, lt-leb}
+use borrow.Author.Tests.{ltb-true, ltb-false, leb-true, leb-false, lt-leb, le-leb}
 use Rattle.felica_format.specs.Read.{readFrame}
 use Rattle.felica_put.specs.Put.{Buffer, put}
 use Rattle.felica_put.proofs.Laws.{put-append, put-room, kept}
@@ -24,7 +24,7 @@ use Rattle.felica_log.specs.declared.ahead.Ahead.{Ahead}
 use Rattle.felica_log.specs.declared.ahead.Ahead.the-variants.{Frame, Stop as StopsBy}
 use Rattle.felica_log.specs.Listing.{countedAs, recordsLeft, listingFrom}
 use Rattle.felica_log.specs.Step.{Reached, reached, stepFrom}
-use Rattle.felica_log.specs.Rules.{Stopped, Sound}
+use Rattle.felica_log.specs.Rules.{WholeAhead, Stopped, Sound}
 use Rattle.felica_log.specs.Ahead.{aheadOf}
 use Rattle.felica_log.proofs.Front.{front-whole, front-cut, one-left}
 use Rattle.felica_log.proofs.Turn.{stops-is, stops-not, Lists, frame-ahead, counted-frame, counted-records, step-stopped, step-listed}
@@ -39,15 +39,18 @@ ahead-stops b t (x ∷ s) {stop} e =
     is : {z : Stop} → StopsBy z ≡ StopsBy stop → Stopped z b t (x ∷ s) → Stopped stop b t (x ∷ s)
     is e holds = subst (λ (z : Stop). Stopped z b t (x ∷ s)) (stops-is e) holds
 
+    whole : leb 1000000 (t .records) ≡ false → ltb (length s) x ≡ false → WholeAhead t (x ∷ s)
+    whole l c = (leb-false _ _ l, (take x s, drop x s, front-whole x s (ltb-false _ _ c)))
+
     go : (limit : Bool) → leb 1000000 (t .records) ≡ limit → (cut : Bool) → ltb (length s) x ≡ cut → (short : Bool) → ltb (length (b .bytes) - b .next) 128 ≡ short
         → (fits : Bool) → hasRoom t 255 ≡ fits
         → cond limit (StopsBy AtLimit) (cond cut (StopsBy AtCut) (cond short (StopsBy NoRoom) (cond fits (Frame x) (StopsBy TotalsFull)))) ≡ StopsBy stop
         → Stopped stop b t (x ∷ s)
     go true l cut c short r fits f e = is e (leb-true _ _ l, λ q. let z = ap length q in omega arith)
     go false l true c short r fits f e = is e (leb-false _ _ l, (x - length s, front-cut x s (ltb-true _ _ c)))
-    go false l false c true r fits f e = is e (lt-leb 128 (length (b .bytes) - b .next) (ltb-true _ _ r))
+    go false l false c true r fits f e = is e (whole l c, lt-leb 128 (length (b .bytes) - b .next) (ltb-true _ _ r))
     go false l false c false r true f e = absurd (stops-not (sym e))
-    go false l false c false r false f e = is e f
+    go false l false c false r false f e = is e (whole l c, le-leb 128 (length (b .bytes) - b .next) (ltb-false _ _ r), f)
 
 -- one more record in the listing of any log that goes on with s
 listing-next : (t : Totals) (s behind : List ℕ) (space size : ℕ) → Lists s space t size
@@ -68,20 +71,10 @@ counted-sound : (t : Totals) (frame : List ℕ) → t .records < 1000000 → Sou
 counted-sound t frame few s = go (isAccepted (readFrame frame)) (blocksIn (readFrame frame)) (blocks-few frame)
   where
     go : (accepted : Bool) (blocks : ℕ) → blocks ≤ 255 → Sound (counted t accepted blocks)
-    go true blocks h = record {
-      records = omega (arith, few);
-      accepted = omega (arith, s .accepted);
-      refused = omega (arith, s .refused);
-      blocks = omega (arith, s .blocks, h);
-    }
-    go false blocks h = record {
-      records = omega (arith, few);
-      accepted = omega (arith, s .accepted);
-      refused = omega (arith, s .refused);
-      blocks = omega (arith, s .blocks);
-    }
+    go true blocks h = record { few = omega (arith, few); records = omega (arith, s .records); blocks = omega (arith, s .blocks, h) }
+    go false blocks h = record { few = omega (arith, few); records = omega (arith, s .records); blocks = s .blocks }
 
-pub record Came (b : Buffer) (t : Totals) (used : ℕ) (s : List ℕ) (r : Reached) : Type 0 where
+pub record StepResult (b : Buffer) (t : Totals) (used : ℕ) (s : List ℕ) (r : Reached) : Type 0 where
   pub text : List ℕ
   pub far : ℕ
   pub puts : r .out ≡ put b text
@@ -93,9 +86,9 @@ pub record Came (b : Buffer) (t : Totals) (used : ℕ) (s : List ℕ) (r : Reach
   pub stopped : Stopped (r .stop) (r .out) (r .totals) (drop far s)
   pub sound : Sound t → Sound (r .totals)
 
-stays : (b : Buffer) (t : Totals) (used : ℕ) (s : List ℕ) {stop : Stop} → aheadOf s (length (b .bytes) - b .next) t ≡ StopsBy stop → Came b t used s (reached b t used stop)
+stopped-here : (b : Buffer) (t : Totals) (used : ℕ) (s : List ℕ) {stop : Stop} → aheadOf s (length (b .bytes) - b .next) t ≡ StopsBy stop → StepResult b t used s (reached b t used stop)
 unfolding put
-stays b t used s e = record {
+stopped-here b t used s e = record {
   text = [];
   far = 0;
   puts = refl;
@@ -118,11 +111,11 @@ room-both b line text short space (inl h) =
     rw (length-append line text) (omega (arith, h, next, long))
 room-both b line text short space (inr e) = rw (e, append-nil line) (omega arith)
 
--- one more record, and what came behind it
-goes : (b : Buffer) (t : Totals) (used : ℕ) (s : List ℕ) (size : ℕ) {r : Reached} → Lists s (length (b .bytes) - b .next) t size
-    → Came (put b (recordLine (t .records + 1) (readFrame (take size (drop 1 s))))) (countedAs t (readFrame (take size (drop 1 s)))) (used + (size + 1)) (drop (size + 1) s) r
-    → Came b t used s r
-goes b t used s size {r} l rest =
+-- one more record, and the result of the step behind it
+one-more : (b : Buffer) (t : Totals) (used : ℕ) (s : List ℕ) (size : ℕ) {r : Reached} → Lists s (length (b .bytes) - b .next) t size
+    → StepResult (put b (recordLine (t .records + 1) (readFrame (take size (drop 1 s))))) (countedAs t (readFrame (take size (drop 1 s)))) (used + (size + 1)) (drop (size + 1) s) r
+    → StepResult b t used s r
+one-more b t used s size {r} l rest =
     let frame = take size (drop 1 s) in
     let line = recordLine (t .records + 1) (readFrame frame) in
     let few = l .few in
@@ -145,21 +138,21 @@ goes b t used s size {r} l rest =
 one-less : (t : Totals) (frame : List ℕ) (n : ℕ) → recordsLeft t ≡ suc n → recordsLeft (countedAs t (readFrame frame)) ≡ n
 one-less t frame n e = counted-records t (isAccepted (readFrame frame)) (blocksIn (readFrame frame)) ∙ omega arith
 
-pub came : (n : ℕ) (b : Buffer) (t : Totals) (used : ℕ) (s : List ℕ) → recordsLeft t ≡ n → Came b t used s (stepFrom (recordsLeft t) b t used s)
-came zero b t used s left = go (aheadOf s (length (b .bytes) - b .next) t) refl
+pub step-result : (n : ℕ) (b : Buffer) (t : Totals) (used : ℕ) (s : List ℕ) → recordsLeft t ≡ n → StepResult b t used s (stepFrom (recordsLeft t) b t used s)
+step-result zero b t used s left = go (aheadOf s (length (b .bytes) - b .next) t) refl
   where
-    go : (a : Ahead) → aheadOf s (length (b .bytes) - b .next) t ≡ a → Came b t used s (stepFrom (recordsLeft t) b t used s)
-    go (StopsBy stop) e = subst (Came b t used s) (sym (step-stopped b t used s e)) (stays b t used s e)
+    go : (a : Ahead) → aheadOf s (length (b .bytes) - b .next) t ≡ a → StepResult b t used s (stepFrom (recordsLeft t) b t used s)
+    go (StopsBy stop) e = subst (StepResult b t used s) (sym (step-stopped b t used s e)) (stopped-here b t used s e)
     go (Frame size) e = let few = frame-ahead s (length (b .bytes) - b .next) t e .few in absurd (omega arith)
-came (suc n) b t used s left = go (aheadOf s (length (b .bytes) - b .next) t) refl (λ c u k l. came n c u k l)
+step-result (suc n) b t used s left = go (aheadOf s (length (b .bytes) - b .next) t) refl (λ c u k l. step-result n c u k l)
   where
     go : (a : Ahead) → aheadOf s (length (b .bytes) - b .next) t ≡ a
-        → ((c : Buffer) (u : Totals) (k : ℕ) (l : List ℕ) → recordsLeft u ≡ n → Came c u k l (stepFrom (recordsLeft u) c u k l))
-        → Came b t used s (stepFrom (recordsLeft t) b t used s)
-    go (StopsBy stop) e later = subst (Came b t used s) (sym (step-stopped b t used s e)) (stays b t used s e)
+        → ((c : Buffer) (u : Totals) (k : ℕ) (l : List ℕ) → recordsLeft u ≡ n → StepResult c u k l (stepFrom (recordsLeft u) c u k l))
+        → StepResult b t used s (stepFrom (recordsLeft t) b t used s)
+    go (StopsBy stop) e later = subst (StepResult b t used s) (sym (step-stopped b t used s e)) (stopped-here b t used s e)
     go (Frame size) e later =
         let l = frame-ahead s (length (b .bytes) - b .next) t e in
         let frame = take size (drop 1 s) in
         let u = countedAs t (readFrame frame) in
-        subst (Came b t used s) (sym (step-listed b t used s size l refl (sym (counted-frame t frame (l .counts)))))
-        (goes b t used s size l (later (put b (recordLine (t .records + 1) (readFrame frame))) u (used + (size + 1)) (drop (size + 1) s) (one-less t frame n left)))
+        subst (StepResult b t used s) (sym (step-listed b t used s size l refl (sym (counted-frame t frame (l .counts)))))
+        (one-more b t used s size l (later (put b (recordLine (t .records + 1) (readFrame frame))) u (used + (size + 1)) (drop (size + 1) s) (one-less t frame n left)))
