@@ -13,7 +13,7 @@ use borrow.Author.Tests.{lt-ltb, ltb-true}
 use Rattle.felica_format.specs.Read.{readFrame}
 use Rattle.felica_format.proofs.Tests.{and-left, and-both}
 use Rattle.felica_put.specs.Put.{Buffer, put}
-use Rattle.felica_put.proofs.Laws.{put-room, kept}
+use Rattle.felica_put.proofs.Laws.{put-room, put-taken, kept}
 use Rattle.felica_totals.specs.declared.Totals.{Totals}
 use Rattle.felica_totals.specs.Count.{hasRoom}
 use Rattle.felica_text.proofs.Text.{decimal-length}
@@ -22,8 +22,8 @@ use Rattle.felica_log.specs.Listing.{Front, nothing, cutBy, frameThen, f
 use Rattle.felica_log.specs.Listing.{listingFrom, listing}
 use Rattle.felica_log.specs.declared.Stop.{Stop}
 use Rattle.felica_log.specs.declared.Stop.the-variants.{AtEnd, AtLimit, AtCut, NoRoom, TotalsFull}
-use Rattle.felica_log.specs.Step.{roomForLine, step, restLine, endText}
-use Rattle.felica_log.specs.Rules.{lines, StepLists, StepKeeps, StepInside, Stopped, StopsExactly, SoundStart, SoundKept, SoundRoom, NoneLeft, NoneBefore, EndFits}
+use Rattle.felica_log.specs.Step.{lacksRoom, maxBlocks, roomForLine, step, restLine, endText}
+use Rattle.felica_log.specs.Rules.{lines, StepLists, StepKeeps, StepInside, Stopped, StopsExactly, SoundStart, SoundKept, SoundRoom, NoneLeft, NoneLeftBehind, RoomUsed, EndFits}
 use Rattle.felica_log.specs.Rules.{reads, steps, after, allRead, PiecesListed, EndListed, FullListed}
 use Rattle.felica_log.proofs.Front.{none-left}
 use Rattle.felica_log.proofs.StepResult.{StepResult, step-result}
@@ -43,17 +43,10 @@ between b text (inl h) =
     ap (λ (x : Buffer). take (x .next - b .next) (drop (b .next) (x .bytes))) is ∙ rw (long, there) (take-append-seam text behind)
 between b text (inr e) = let none : b .next - b .next ≡ 0 = omega arith in rw (e, none)
 
-before : (b : Buffer) (text : List ℕ) → (b .next + length text ≤ length (b .bytes)) ⊎ (text ≡ []) → take (b .next) (put b text .bytes) ≡ take (b .next) (b .bytes)
+up-to : (b : Buffer) (text : List ℕ) → (b .next + length text ≤ length (b .bytes)) ⊎ (text ≡ []) → take (put b text .next) (put b text .bytes) ≡ take (b .next) (b .bytes) ++ text
 unfolding put
-before b text (inl h) =
-    let is = put-room text (b .bytes) (b .next) h in
-    let front : length (take (b .next) (b .bytes)) ≡ b .next = length-take-le (b .next) (b .bytes) (omega arith) in
-    let behind = drop (b .next + length text) (b .bytes) in
-    ap (λ (x : Buffer). take (b .next) (x .bytes)) is
-    ∙ ap (take (b .next)) (append-assoc (take (b .next) (b .bytes)) text behind)
-    ∙ take-append-le (b .next) (take (b .next) (b .bytes)) (text ++ behind) (omega (arith, front))
-    ∙ take-all (b .next) (take (b .next) (b .bytes)) (omega (arith, front))
-before b text (inr e) = rw e
+up-to b text (inl h) = put-taken text (b .bytes) (b .next) h
+up-to b text (inr e) = rw (e, append-nil (take (b .next) (b .bytes)))
 
 module _ (b : Buffer) (t : Totals) (piece : List ℕ) where
   result : StepResult b t 0 piece (step b t piece)
@@ -75,7 +68,7 @@ step-lists b t piece behind =
 pub step-keeps : StepKeeps
 step-keeps b t piece =
     let c = result b t piece in (
-      ap (λ (x : Buffer). take (b .next) (x .bytes)) (c .puts) ∙ before b (c .text) (c .room),
+      ap (λ (x : Buffer). take (x .next) (x .bytes)) (c .puts) ∙ up-to b (c .text) (c .room) ∙ ap (λ (x : List ℕ). take (b .next) (b .bytes) ++ x) (sym (lines-text b t piece)),
       subst (λ (x : Buffer). drop (x .next) (x .bytes) ≡ drop (x .next) (b .bytes)) (sym (c .puts)) (kept b (c .text) .behind (put b (c .text) .next) (omega arith)),
     )
 
@@ -84,7 +77,6 @@ step-inside b t piece =
     let c = result b t piece in (
       omega (arith, c .inside, used-far b t piece),
       λ h. subst (λ (x : Buffer). x .next ≤ length (x .bytes)) (sym (c .puts)) (kept b (c .text) .within h),
-      λ e. c .still (sym (used-far b t piece) ∙ e),
     )
 
 pub stops-exactly : StopsExactly
@@ -111,20 +103,31 @@ nothing-whole e = let z : _≡_ {A = ℕ} 0 1 = cc in omega arith
 cut-whole : {missing : ℕ} {frame rest : List ℕ} → cutBy missing ≡ frameThen frame rest → ⊥
 cut-whole e = let z : _≡_ {A = ℕ} 0 1 = cc in omega arith
 
-stop-none : (stop : Stop) (b : Buffer) (t : Totals) (rest : List ℕ) → Stopped stop b t rest → roomForLine b ≡ true → hasRoom t 255 ≡ true → NoneLeft t rest
+stop-none : (stop : Stop) (b : Buffer) (t : Totals) (rest : List ℕ) → Stopped stop b t rest → lacksRoom stop ≡ false → hasRoom t maxBlocks ≡ true → NoneLeft t rest
 unfolding front
-stop-none AtEnd b t rest none room totals frame r e = absurd (nothing-whole (sym (ap front none) ∙ e))
-stop-none AtLimit b t rest (full, some) room totals frame r e = full
-stop-none AtCut b t rest (few, (missing, cut)) room totals frame r e = absurd (cut-whole (sym cut ∙ e))
-stop-none NoRoom b t rest (whole, none) room totals frame r e = absurd (true≢false (sym room ∙ none))
-stop-none TotalsFull b t rest (whole, space, none) room totals frame r e = absurd (true≢false (sym totals ∙ none))
+stop-none AtEnd b t rest none other totals frame r e = absurd (nothing-whole (sym (ap front none) ∙ e))
+stop-none AtLimit b t rest (full, some) other totals frame r e = full
+stop-none AtCut b t rest (few, (missing, cut)) other totals frame r e = absurd (cut-whole (sym cut ∙ e))
+stop-none NoRoom b t rest short other totals frame r e = absurd (true≢false other)
+stop-none TotalsFull b t rest (whole, room, none) other totals frame r e = absurd (true≢false (sym totals ∙ none))
 
-pub none-before : NoneBefore
-none-before b t piece s room e =
+pub none-left-behind : NoneLeftBehind
+none-left-behind b t piece s other =
     let r = step b t piece in
-    subst (λ (n : ℕ). NoneLeft (r .totals) (drop n piece)) e
-    (stop-none (r .stop) (r .out) (r .totals) (drop (r .used) piece) (stops-exactly b t piece) (subst (λ (x : Buffer). roomForLine x ≡ true) (sym (step-inside b t piece .2 e)) room)
-    (sound-room (r .totals) (sound-kept b t piece s)))
+    stop-none (r .stop) (r .out) (r .totals) (drop (r .used) piece) (stops-exactly b t piece) other (sound-room (r .totals) (sound-kept b t piece s))
+
+stop-short : (stop : Stop) (b : Buffer) (t : Totals) (rest : List ℕ) → Stopped stop b t rest → lacksRoom stop ≡ true → roomForLine b ≡ false
+stop-short AtEnd b t rest none lacks = absurd (true≢false (sym lacks))
+stop-short AtLimit b t rest none lacks = absurd (true≢false (sym lacks))
+stop-short AtCut b t rest none lacks = absurd (true≢false (sym lacks))
+stop-short NoRoom b t rest (whole, short) lacks = short
+stop-short TotalsFull b t rest none lacks = absurd (true≢false (sym lacks))
+
+pub room-used : RoomUsed
+room-used b t piece room lacks e =
+    let r = step b t piece in
+    let still = result b t piece .still (sym (used-far b t piece) ∙ e) in
+    true≢false (sym room ∙ ap roomForLine (sym still) ∙ stop-short (r .stop) (r .out) (r .totals) (drop (r .used) piece) (stops-exactly b t piece) lacks)
 
 cut-length : (missing : ℕ) → missing < 256 → length (cutLine missing) ≤ 8
 cut-length missing h = let digits = decimal-length 2 missing (omega arith) in simp length-append (omega arith)

@@ -11,7 +11,7 @@ use Rattle.felica_totals.specs.Count.{noTotals, hasRoom}
 use Rattle.felica_log.specs.declared.Stop.{Stop}
 use Rattle.felica_log.specs.declared.Stop.the-variants.{AtEnd, AtLimit, AtCut, NoRoom, TotalsFull}
 use Rattle.felica_log.specs.Listing.{cutBy, frameThen, front, maxRecords, recordsLeft, listingFrom, listing}
-use Rattle.felica_log.specs.Step.{Reached, lineRoom, maxBlocks, roomForLine, step, endText}
+use Rattle.felica_log.specs.Step.{Reached, lacksRoom, lineRoom, maxBlocks, roomForLine, step, endText}
 
 -- the bytes that a step has put behind those that the buffer held
 abbrev pub lines : Buffer → Reached → List ℕ
@@ -23,17 +23,16 @@ StepLists = (b : Buffer) (t : Totals) (piece behind : List ℕ)
     → listingFrom (recordsLeft t) t (piece ++ behind)
     ≡ lines b (step b t piece) ++ listingFrom (recordsLeft (step b t piece .totals)) (step b t piece .totals) (drop (step b t piece .used) piece ++ behind)
 
--- All other bytes of the buffer keep their values.
+-- They stand behind what the buffer held up to its place, and all other bytes keep their values.
 abbrev pub StepKeeps : Type 0
 StepKeeps = (b : Buffer) (t : Totals) (piece : List ℕ)
-    → (take (b .next) (step b t piece .out .bytes) ≡ take (b .next) (b .bytes))
+    → (take (step b t piece .out .next) (step b t piece .out .bytes) ≡ take (b .next) (b .bytes) ++ lines b (step b t piece))
     × (drop (step b t piece .out .next) (step b t piece .out .bytes) ≡ drop (step b t piece .out .next) (b .bytes))
 
--- It uses no more than the piece, stays inside the buffer, and puts nothing where it uses nothing.
+-- It uses no more than the piece, and stays inside the buffer.
 abbrev pub StepInside : Type 0
 StepInside = (b : Buffer) (t : Totals) (piece : List ℕ)
     → (step b t piece .used ≤ length piece) × (b .next ≤ length (b .bytes) → step b t piece .out .next ≤ length (step b t piece .out .bytes))
-    × (step b t piece .used ≡ 0 → step b t piece .out ≡ b)
 
 -- a whole record that may be read stands at the front
 abbrev pub WholeAhead : Totals → List ℕ → Type 0
@@ -70,9 +69,13 @@ SoundRoom = (t : Totals) → Sound t → hasRoom t maxBlocks ≡ true
 abbrev pub NoneLeft : Totals → List ℕ → Type 0
 NoneLeft t s = (frame rest : List ℕ) → front s ≡ frameThen frame rest → maxRecords ≤ t .records
 
--- A step that has room for a line and uses nothing has no whole record before it.
-abbrev pub NoneBefore : Type 0
-NoneBefore = (b : Buffer) (t : Totals) (piece : List ℕ) → Sound t → roomForLine b ≡ true → step b t piece .used ≡ 0 → NoneLeft (step b t piece .totals) piece
+-- Where a step does not stop for want of room, none is left; where it does, and had room for a line, it has listed something.
+abbrev pub NoneLeftBehind : Type 0
+NoneLeftBehind = (b : Buffer) (t : Totals) (piece : List ℕ) → Sound t → lacksRoom (step b t piece .stop) ≡ false
+    → NoneLeft (step b t piece .totals) (drop (step b t piece .used) piece)
+
+abbrev pub RoomUsed : Type 0
+RoomUsed = (b : Buffer) (t : Totals) (piece : List ℕ) → roomForLine b ≡ true → lacksRoom (step b t piece .stop) ≡ true → step b t piece .used ≡ 0 → ⊥
 
 -- The room that a step asks for is enough for the lines behind the records, too.
 abbrev pub EndFits : Type 0

@@ -8,8 +8,8 @@ use Prim.Native.Nat.{ℕ, suc, _+_, _≤_, _<_}
 use native.Mathlib.Nat.{zero-add}
 use native.Mathlib.Numerals.{add-one}
 use native.Mathlib.Omega.{arith}
-use lib.ListN.{length, getD, set, take, drop, length-set, drop-of-length-le}
-use lib.Seq.{sets, sets-eq, drop-cons, drop-set-lt}
+use lib.ListN.{length, getD, set, take, drop, length-set, length-append, drop-of-length-le}
+use lib.Seq.{sets, sets-eq, drop-cons, drop-set-lt, length-take-le, take-append-seam}
 use lib.Dec.{ltb}
 use borrow.Author.Tests.{lt-ltb, ltb-true}
 use Rattle.felica_put.specs.Put.{Buffer, buffer, putByte, put}
@@ -69,6 +69,15 @@ put-room vs l at h = put-sets vs l at h ∙ ap (λ m. buffer m (at + length vs))
 -- the same from the start
 pub put-front : (vs l : List ℕ) → length vs ≤ length l → put (buffer l 0) vs ≡ buffer (vs ++ drop (length vs) l) (length vs)
 put-front vs l h = put-room vs l 0 (omega arith) ∙ ap (λ n. buffer (vs ++ drop n l) n) (zero-add (length vs))
+
+-- what stands in front of the next place then
+pub put-taken : (vs l : List ℕ) (at : ℕ) → at + length vs ≤ length l → take (put (buffer l at) vs .next) (put (buffer l at) vs .bytes) ≡ take at l ++ vs
+put-taken vs l at h =
+    let front : length (take at l ++ vs) ≡ at + length vs =
+        length-append (take at l) vs ∙ ap (λ (n : ℕ). n + length vs) (length-take-le at l (omega arith)) in
+    ap (λ (b : Buffer). take (b .next) (b .bytes)) (put-room vs l at h)
+    ∙ ap (λ (n : ℕ). take n (take at l ++ vs ++ drop (at + length vs) l)) (sym front)
+    ∙ take-append-seam (take at l ++ vs) (drop (at + length vs) l)
 
 -- Whether or not there is room: the buffer keeps its length, the next place never falls and stays within the buffer, and from there on
 -- every byte keeps its value.
