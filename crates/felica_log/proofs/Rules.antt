@@ -8,10 +8,10 @@ use mathlib.Core.Bool.{Bool, true, false, cond, true≢false}
 use mathlib.Core.List.{List, [], _∷_, _++_, append-assoc, append-nil}
 use lib.Dec.{leb}
 use lib.ListN.{length, getD, take, drop, length-append}
-use lib.Seq.{length-take-le, take-all, take-append-le, take-append-seam, drop-append-seam}
-use borrow.Author.Tests.{lt-ltb, ltb-true}
+use lib.Seq.{length-take-le, take-append-seam, drop-append-seam}
+use borrow.Author.Tests.{lt-ltb}
 use Rattle.felica_format.specs.Read.{readFrame}
-use Rattle.felica_format.proofs.Tests.{and-left, and-both}
+use Rattle.felica_format.proofs.Tests.{and-both}
 use Rattle.felica_put.specs.Put.{Buffer, put}
 use Rattle.felica_put.proofs.Laws.{put-room, put-taken, kept}
 use Rattle.felica_totals.specs.declared.Totals.{Totals}

@@ -74,7 +74,7 @@ put-front vs l h = put-room vs l 0 (omega arith) ∙ ap (λ n. buffer (vs ++ dro
 pub put-taken : (vs l : List ℕ) (at : ℕ) → at + length vs ≤ length l → take (put (buffer l at) vs .next) (put (buffer l at) vs .bytes) ≡ take at l ++ vs
 put-taken vs l at h =
     let front : length (take at l ++ vs) ≡ at + length vs =
-        length-append (take at l) vs ∙ ap (λ (n : ℕ). n + length vs) (length-take-le at l (omega arith)) in
+    length-append (take at l) vs ∙ ap (λ (n : ℕ). n + length vs) (length-take-le at l (omega arith)) in
     ap (λ (b : Buffer). take (b .next) (b .bytes)) (put-room vs l at h)
     ∙ ap (λ (n : ℕ). take n (take at l ++ vs ++ drop (at + length vs) l)) (sym front)
     ∙ take-append-seam (take at l ++ vs) (drop (at + length vs) l)

@@ -1,11 +1,10 @@
 // A program's input and output in large pieces: input read behind what is still held, the rest of it moved to the front, and output written where room is
 // needed.
 ghost use mathlib.Core.Path.{_≡_};
-ghost use mathlib.Core.Bool.{true, false, cond};
+ghost use mathlib.Core.Bool.{true, false};
 ghost use Prim.Native.Nat.{_+_, _≤_, _<_};
-ghost use lib.Dec.{leb};
 ghost use lib.ListN.{length, take};
-ghost use Rattle.felica_stream.specs.Held.{moved};
+ghost use Rattle.felica_stream.specs.Held.{moved, stillWaiting};
 use libc::STDIN_FILENO;
 use libc::STDOUT_FILENO;
 
@@ -60,7 +59,7 @@ pub fn keep_rest(input: &mut [u8], from: usize, end: usize)
 // Writes the first `waiting` bytes of `out` where less than `room` is left behind them. Whether a write fails is the system's; bytes that are not there cannot be
 // written.
 pub fn make_room(out: &[u8], waiting: usize, room: usize) -> Output
-    ensures { λ r. ⌜ (r .waiting ≡ cond (leb (waiting + room) (length (now (out .entry)))) waiting 0) × (waiting + room ≤ length (now (out .entry)) → r .failed ≡ false) × (length (now (out .entry)) < waiting → r .failed ≡ true) ⌝ }
+    ensures { λ r. ⌜ (r .waiting ≡ stillWaiting (length (now (out .entry))) waiting room) × (waiting + room ≤ length (now (out .entry)) → r .failed ≡ false) × (length (now (out .entry)) < waiting → r .failed ≡ true) ⌝ }
 {
     if out.len() < waiting {
         return Output {

@@ -4,20 +4,23 @@ use Prim.Native.Nat.{ℕ, zero, suc, _+_, _-_, _≤_}
 use native.Mathlib.Nat.{zero-add, sub-zero}
 use native.Mathlib.Omega.{arith}
 use mathlib.Core.Path.{_≡_, refl, sym, ap, _∙_, subst}
-use mathlib.Core.Bool.{Bool, true, false, true≢false}
-use mathlib.Core.List.{List, [], _∷_, _++_, append-assoc}
+use mathlib.Core.Bool.{Bool, true, false, cond, true≢false}
+use mathlib.Core.List.{List, [], _∷_, _++_, append-assoc, append-nil}
+use lib.Dec.{leb}
 use lib.ListN.{length, take, drop, length-drop}
 use lib.Seq.{take-nil, drop-drop, paste, take-paste}
 use borrow.Author.Tests.{le-leb}
-use Rattle.felica_put.specs.Put.{Buffer}
+use Rattle.felica_put.specs.Put.{Buffer, buffer, put}
+use Rattle.felica_put.proofs.Laws.{put-room, put-taken}
 use Rattle.felica_totals.specs.declared.Totals.{Totals}
-use Rattle.felica_stream.specs.Held.{moved}
+use Rattle.felica_stream.specs.Held.{moved, stillWaiting}
+use Rattle.felica_stream.proofs.Held.{room-made}
 use Rattle.felica_log.specs.declared.Stop.{Stop}
 use Rattle.felica_log.specs.Listing.{nothing, frameThen, front, recordsLeft, listingFrom}
-use Rattle.felica_log.specs.Step.{Reached, reached, roomForLine, step}
+use Rattle.felica_log.specs.Step.{Reached, reached, lacksRoom, roomForLine, step}
 use Rattle.felica_log.specs.Rules.{lines, Sound, NoneLeft}
-use Rattle.felica_log.proofs.Rules.{step-lists, step-inside, sound-kept, none-before}
-use Rattle.list_log.specs.Held.{Along, RestKept, over}
+use Rattle.felica_log.proofs.Rules.{step-lists, step-keeps, step-inside, sound-kept, none-left-behind, room-used}
+use Rattle.list_log.specs.Held.{ListedUpTo, RestKept, EndPut, over}
 
 -- one step more
 module _ (b : Buffer) (u : Totals) (piece : List ℕ) {out : Buffer} {v : Totals} {n : ℕ} {stop : Stop} (e : reached out v n stop ≡ step b u piece) where
@@ -30,24 +33,51 @@ module _ (b : Buffer) (u : Totals) (piece : List ℕ) {out : Buffer} {v : Totals
   pub sound-after : Sound u → Sound v
   sound-after s = subst (λ (r : Reached). Sound (r .totals)) (sym e) (sound-kept b u piece s)
 
-  pub none-after : Sound u → roomForLine b ≡ true → n ≡ 0 → NoneLeft v piece
-  none-after s room none =
-      subst (λ (r : Reached). NoneLeft (r .totals) piece) (sym e) (none-before b u piece s room (subst (λ (r : Reached). r .used ≡ 0) e none))
+  pub none-after : Sound u → lacksRoom stop ≡ false → NoneLeft v (drop n piece)
+  none-after s other =
+      subst (λ (r : Reached). NoneLeft (r .totals) (drop (r .used) piece)) (sym e) (none-left-behind b u piece s (subst (λ (r : Reached). lacksRoom (r .stop) ≡ false) e other))
 
-  pub along-after : (t : Totals) (held : List ℕ) (used : ℕ) → piece ≡ drop used held → Along t held u used → Along t held v (used + n)
-  along-after t held used is a = subst (λ (r : Reached). Along t held (r .totals) (used + r .used)) (sym e) (record {
-    lines = a .lines ++ lines b (step b u piece);
+  pub some-used : roomForLine b ≡ true → lacksRoom stop ≡ true → n ≡ 0 → ⊥
+  some-used room lacks none = room-used b u piece room (subst (λ (r : Reached). lacksRoom (r .stop) ≡ true) e lacks) (subst (λ (r : Reached). r .used ≡ 0) e none)
+
+  pub listed-step : (t : Totals) (a : Buffer) (held : List ℕ) (used : ℕ) → piece ≡ drop used held → ListedUpTo t a held u b used → ListedUpTo t a held v out (used + n)
+  listed-step t a held used is l = subst (λ (r : Reached). ListedUpTo t a held (r .totals) (r .out) (used + r .used)) (sym e) (record {
+    lines = l .lines ++ lines b (step b u piece);
+    written = l .written;
     lists = λ behind.
-        a .lists behind
-        ∙ ap (λ (x : List ℕ). a .lines ++ listingFrom (recordsLeft u) u (x ++ behind)) (sym is)
-        ∙ ap (λ (x : List ℕ). a .lines ++ x) (step-lists b u piece behind)
-        ∙ ap (λ (x : List ℕ). a .lines ++ (lines b (step b u piece) ++ listingFrom (recordsLeft (step b u piece .totals)) (step b u piece .totals) (x ++ behind)))
+        l .lists behind
+        ∙ ap (λ (x : List ℕ). l .lines ++ listingFrom (recordsLeft u) u (x ++ behind)) (sym is)
+        ∙ ap (λ (x : List ℕ). l .lines ++ x) (step-lists b u piece behind)
+        ∙ ap (λ (x : List ℕ). l .lines ++ (lines b (step b u piece) ++ listingFrom (recordsLeft (step b u piece .totals)) (step b u piece .totals) (x ++ behind)))
         (ap (drop (step b u piece .used)) is ∙ drop-drop (step b u piece .used) used held)
-        ∙ sym (append-assoc (a .lines) (lines b (step b u piece)) _);
+        ∙ sym (append-assoc (l .lines) (lines b (step b u piece)) _);
+    waits =
+        sym (append-assoc (take (a .next) (a .bytes)) (l .lines) (lines b (step b u piece)))
+        ∙ ap (λ (x : List ℕ). x ++ lines b (step b u piece)) (l .waits)
+        ∙ append-assoc (l .written) (take (b .next) (b .bytes)) (lines b (step b u piece))
+        ∙ ap (λ (x : List ℕ). l .written ++ x) (sym (step-keeps b u piece .0));
   })
 
-pub along-start : (t : Totals) (held : List ℕ) → Along t held t 0
-along-start t held = record { lines = []; lists = λ behind. refl }
+-- where the output is written, nothing waits
+listed-written : (t : Totals) (a : Buffer) (held : List ℕ) (u : Totals) (used : ℕ) (out : List ℕ) (next : ℕ) → ListedUpTo t a held u (buffer out next) used
+    → ListedUpTo t a held u (buffer out 0) used
+listed-written t a held u used out next l = record {
+  lines = l .lines;
+  written = l .written ++ take next out;
+  lists = l .lists;
+  waits = l .waits ∙ sym (append-nil (l .written ++ take next out));
+}
+
+pub listed-room : (t : Totals) (a : Buffer) (held : List ℕ) (u : Totals) (used : ℕ) (out : List ℕ) (next room : ℕ) {w : ℕ} → w ≡ stillWaiting (length out) next room
+    → ListedUpTo t a held u (buffer out next) used → ListedUpTo t a held u (buffer out w) used
+listed-room t a held u used out next room {w} e l = subst (λ (n : ℕ). ListedUpTo t a held u (buffer out n) used) (sym e) (go (leb (next + room) (length out)))
+  where
+    go : (fits : Bool) → ListedUpTo t a held u (buffer out (cond fits next 0)) used
+    go true = l
+    go false = listed-written t a held u used out next l
+
+pub listed-start : (t : Totals) (a : Buffer) (held : List ℕ) → ListedUpTo t a held t a 0
+listed-start t a held = record { lines = []; written = []; lists = λ behind. refl; waits = append-nil (take (a .next) (a .bytes)) }
 
 -- nothing is left at all
 none-whole : {frame rest : List ℕ} → nothing ≡ frameThen frame rest → ⊥
@@ -73,8 +103,8 @@ rest-moved s used held h k =
     ∙ take-paste s 0 (drop used s) (held - used) (omega arith) (rw (length-drop used s) (omega arith))
     ∙ sym (drop-take used held s))
 
-pub none-kept : (t : Totals) (held : List ℕ) (u : Totals) (rest : List ℕ) → RestKept t held u rest → NoneLeft u rest
-none-kept t held u rest (used, all, is) = subst (NoneLeft u) (sym is) (all .1)
+pub none-kept : (t : Totals) (a : Buffer) (held : List ℕ) (u : Totals) (b : Buffer) (rest : List ℕ) → RestKept t a held u b rest → NoneLeft u rest
+none-kept t a held u b rest (used, all, is) = subst (NoneLeft u) (sym is) (all .1)
 
 -- while it goes on, no write has failed
 pub not-over : (ended failed : Bool) (t : Totals) (held : ℕ) → over ended failed t held ≡ false → failed ≡ false
@@ -82,3 +112,13 @@ unfolding over
 not-over true failed t held e = absurd (true≢false e)
 not-over false true t held e = absurd (true≢false e)
 not-over false false t held e = refl
+
+-- the lines behind the records stand whole behind what waits
+pub end-put : (out : List ℕ) (next w : ℕ) (text : List ℕ) {l : List ℕ} {n : ℕ} → w ≡ stillWaiting (length out) next 128 → 128 ≤ length out → length text ≤ 128
+    → buffer l n ≡ put (buffer out w) text → EndPut (buffer out next) text l
+end-put out next w text {l} {n} e room short is =
+    let fits : w + length text ≤ length out = omega (arith, room-made w next 128 (length out) e room, short) in
+    let at : n ≡ w + length text = ap (λ (b : Buffer). b .next) (is ∙ put-room text out w fits) in
+    let whole : take (w + length text) l ≡ take w out ++ text =
+    ap (λ (k : ℕ). take k l) (sym at) ∙ ap (λ (b : Buffer). take (b .next) (b .bytes)) is ∙ put-taken text out w fits in
+    subst (λ (k : ℕ). take (k + length text) l ≡ take k out ++ text) e whole

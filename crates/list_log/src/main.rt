@@ -1,10 +1,12 @@
 // Lists a log: reads it on standard input, and writes a line for each record to standard output.
 ghost use mathlib.Core.Path.{_≡_};
 ghost use Prim.Native.Nat.{_≤_};
-ghost use mathlib.Core.Bool.{false};
+ghost use mathlib.Core.Bool.{true, false};
 ghost use lib.ListN.{length, take};
+ghost use Rattle.felica_put.specs.Put.{buffer};
+ghost use Rattle.felica_log.specs.Step.{lineRoom, endText};
 ghost use Rattle.felica_log.specs.Rules.{Sound, NoneLeft};
-ghost use Rattle.list_log.specs.Held.{AllListed, RestKept, over};
+ghost use Rattle.list_log.specs.Held.{AllListed, RestKept, EndPut, over};
 use felica_log::LINE_ROOM;
 use felica_log::MAX_RECORDS;
 use felica_log::end::put_end;
@@ -46,10 +48,10 @@ struct State {
     write_failed: bool,
 }
 
-// Lists the whole records of what is held. Once there is room for a line, a step that uses nothing has no whole record before it.
+// Lists the whole records of what is held.
 fn list_held(held: &[u8], out: &mut [u8], waiting: usize, totals: Totals) -> Listed
-    requires { ⌜ (waiting ≤ length (now out)) × (128 ≤ length (now out)) × Sound totals ⌝ }
-    ensures { λ r. ⌜ (r .used ≤ length (now (held .entry))) × (r .waiting ≤ length (now (out .exit))) × Sound (r .totals) × (r .failed ≡ false → AllListed totals (now (held .entry)) (r .totals) (r .used)) ⌝ }
+    requires { ⌜ (waiting ≤ length (now out)) × (lineRoom ≤ length (now out)) × Sound totals ⌝ }
+    ensures { λ r. ⌜ (r .used ≤ length (now (held .entry))) × (r .waiting ≤ length (now (out .exit))) × Sound (r .totals) × (r .failed ≡ false → AllListed totals (buffer (now (out .entry)) waiting) (now (held .entry)) (r .totals) (buffer (now (out .exit)) (r .waiting)) (r .used)) ⌝ }
 {
     let mut used = 0;
     let mut next = waiting;
@@ -61,12 +63,13 @@ fn list_held(held: &[u8], out: &mut [u8], waiting: usize, totals: Totals) -> Lis
             return Listed::of(used, next, after, true);
         }
         let progress = list_records(&held[used..], out, next, after);
+        let stop = progress.stop;
+        used += progress.used;
         next = progress.next;
         after = progress.totals;
-        if progress.used == 0 {
+        if !stop.lacks_room() {
             return Listed::of(used, next, after, false);
         }
-        used += progress.used;
     }
     Listed::of(used, next, after, false)
 }
@@ -79,8 +82,8 @@ fn list_input(
     waiting: usize,
     totals: Totals,
 ) -> State
-    requires { ⌜ (held ≤ length (now input)) × (waiting ≤ length (now out)) × (128 ≤ length (now out)) × Sound totals ⌝ }
-    ensures { λ r. ⌜ (r .held ≤ length (now (input .exit))) × (r .waiting ≤ length (now (out .exit))) × Sound (r .totals) × (r .«write_failed» ≡ false → RestKept totals (take held (now (input .entry))) (r .totals) (take (r .held) (now (input .exit)))) ⌝ }
+    requires { ⌜ (held ≤ length (now input)) × (waiting ≤ length (now out)) × (lineRoom ≤ length (now out)) × Sound totals ⌝ }
+    ensures { λ r. ⌜ (r .held ≤ length (now (input .exit))) × (r .waiting ≤ length (now (out .exit))) × Sound (r .totals) × (r .«write_failed» ≡ false → RestKept totals (buffer (now (out .entry)) waiting) (take held (now (input .entry))) (r .totals) (buffer (now (out .exit)) (r .waiting)) (take (r .held) (now (input .exit)))) ⌝ }
 {
     let listed = list_held(&input[..held], out, waiting, totals);
     let used = listed.used;
@@ -113,7 +116,7 @@ fn is_over(state: State, ended: bool) -> bool
 
 // Reads the log and lists its records. A proved loop has to end, and nothing says that the input does: the turns are counted down.
 fn feed(input: &mut [u8], out: &mut [u8]) -> State
-    requires { ⌜ 128 ≤ length (now out) ⌝ }
+    requires { ⌜ lineRoom ≤ length (now out) ⌝ }
     ensures { λ r. ⌜ (r .held ≤ length (now (input .exit))) × (r .waiting ≤ length (now (out .exit))) × Sound (r .totals) × (r .«read_failed» ≡ false → r .«write_failed» ≡ false → NoneLeft (r .totals) (take (r .held) (now (input .exit)))) ⌝ }
 {
     let mut held = 0;
@@ -152,7 +155,8 @@ fn feed(input: &mut [u8], out: &mut [u8]) -> State
 
 // Writes what waits and the lines that end the listing, and answers whether everything is written.
 fn finish(rest: &[u8], out: &mut [u8], state: State) -> bool
-    requires { ⌜ state .waiting ≤ length (now out) ⌝ }
+    requires { ⌜ (state .waiting ≤ length (now out)) × (lineRoom ≤ length (now out)) × Sound (state .totals) ⌝ }
+    ensures { λ r. ⌜ (r ≡ true → EndPut (buffer (now (out .entry)) (state .waiting)) (endText (state .totals) (now (rest .entry))) (now (out .exit))) ⌝ }
 {
     if state.write_failed {
         return false;
@@ -168,7 +172,7 @@ fn finish(rest: &[u8], out: &mut [u8], state: State) -> bool
 
 // A listing without TOTAL is not complete: then the error output says why.
 fn run(input: &mut [u8], out: &mut [u8])
-    requires { ⌜ 128 ≤ length (now out) ⌝ }
+    requires { ⌜ lineRoom ≤ length (now out) ⌝ }
 {
     let state = feed(input, out);
     let held = state.held;

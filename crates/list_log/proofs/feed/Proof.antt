@@ -56,7 +56,7 @@ same-length-4 c = c .before .before .before .before .before .before .list-input 
 returns-2 : tie.Need-returns-2 Inv-loop μ-loop
 returns-2 c =
     let listed = c .before .before .before .before .before .before .list-input .ensures in
-    (listed .0, listed .1, listed .2, λ _ e. none-kept _ _ _ _ (listed .3 e))
+    (listed .0, listed .1, listed .2, λ _ e. none-kept _ _ _ _ _ _ (listed .3 e))
 
 sub-turns : tie.Need-sub-turns Inv-loop μ-loop
 sub-turns c = omega arith
@@ -74,7 +74,7 @@ loop-again c =
       c .before .before .before .before .before .before .before .list-input .kept .0 ∙ c .before .before .before .before .before .before .before .before .before .before .before .before .before .read-more .kept .0 ∙ loop .inv .2,
       c .before .before .before .before .before .before .before .list-input .kept .1 .1 .0 ∙ loop .inv .3,
       listed .2,
-      none-kept _ _ _ _ (listed .3 written),
+      none-kept _ _ _ _ _ _ (listed .3 written),
     )
 
 same-length-5 : tie.Need-same-length-5 Inv-loop μ-loop

@@ -1,30 +1,31 @@
 -- `list_held` meets its contract: a step for each turn.
 -- Assumes nothing.
 use borrow.Author.Needs.{needs}
-use borrow.Author.Tests.{le-leb}
+use borrow.Author.Tests.{le-leb, not-true, not-false}
 use native.Mathlib.Omega.{arith}
 use Prim.Native.Nat.{_+_, _-_, _≤_}
-use mathlib.Core.Path.{_≡_, refl, ap, _∙_, subst}
+use mathlib.Core.Path.{_≡_, refl, sym, ap, _∙_, subst}
 use mathlib.Core.Bool.{true≢false}
 use lib.ListN.{length, drop, length-drop}
+use lib.Seq.{drop-drop}
 use Rattle.felica_put.specs.Put.{buffer}
+use Rattle.felica_stream.proofs.Held.{waits-inside, room-made}
 use Rattle.felica_log.specs.Rules.{Sound, NoneLeft}
 use Rattle.felica_log.proofs.Turn.{rest-is}
-use Rattle.list_log.specs.Held.{Along}
-use Rattle.felica_stream.proofs.Held.{waits-inside, room-made}
-use Rattle.list_log.proofs.Held.{used-inside, next-inside, sound-after, none-after, along-start, along-after, none-of}
+use Rattle.list_log.specs.Held.{ListedUpTo}
+use Rattle.list_log.proofs.Held.{used-inside, next-inside, sound-after, none-after, some-used, listed-step, listed-room, listed-start, none-of}
 use Rattle.list_log.proofs.list_held.Statement.{statement}
 use Rattle.list_log.proofs.list_held.Tie as tie
 
 abbrev Inv-loop : tie.InvT-loop
 Inv-loop held out₀ waiting used₀ next₀ after₀ out used next after =
-    (used ≤ length held) × (next ≤ length out) × (length out ≡ length out₀) × Sound after × Along after₀ held after used
+    (used ≤ length held) × (next ≤ length out) × (length out ≡ length out₀) × Sound after × ListedUpTo after₀ (buffer out₀ waiting) held after (buffer out next) used
 
 abbrev μ-loop : tie.MeasureT-loop
 μ-loop held out₀ waiting used₀ next₀ after₀ out used next after = length held - used
 
 loop-holds : tie.Need-loop-holds Inv-loop μ-loop
-loop-holds c = (omega arith, c .before .before .pre .0, refl, c .before .before .pre .2, along-start (c .before .before .args .totals) (c .before .before .args .held .now))
+loop-holds c = (omega arith, c .before .before .pre .0, refl, c .before .before .pre .2, listed-start (c .before .before .args .totals) (buffer (c .before .before .args .out .now) (c .before .before .args .waiting)) (c .before .before .args .held .now))
 
 make-room-requires : tie.Need-make-room-requires Inv-loop μ-loop
 make-room-requires c κs = search needs
@@ -52,44 +53,60 @@ part-list-records-end c = omega (arith, c .before .before .before .loop-test .ta
 list-records-requires : tie.Need-list-records-requires Inv-loop μ-loop
 list-records-requires c κs = search needs
 
+add-used : tie.Need-add-used Inv-loop μ-loop
+add-used c =
+    let loop = c .before .before .before .before .before .before .before .before .before .before .loop in
+    let held = c .before .before .before .before .before .before .before .before .before .before .before .before .before .args .held .now in
+    let b = buffer (loop .out) (c .before .before .before .before .before .before .before .make-room .result .waiting) in
+    let e = c .before .before .before .list-records .ensures in
+    let rest = rest-is held (loop .used) (c .before .before .before .before .before .before .before .before .before .loop-test .taken) in
+    let inside : loop .used + c .before .before .before .list-records .result .used ≤ length held =
+    omega (arith, used-inside b (loop .after) _ e, ap length rest ∙ length-drop (loop .used) held, c .before .before .before .before .before .before .before .before .before .loop-test .taken) in
+    record { fits = omega (arith, inside, c .before .before .before .before .before .before .before .before .before .before .before .before .before .good .0) }
+
+lacks-room-requires : tie.Need-lacks-room-requires Inv-loop μ-loop
+lacks-room-requires c κs = search needs
+
 of-requires-2 : tie.Need-of-requires-2 Inv-loop μ-loop
 of-requires-2 c κs = search needs
 
 same-length-2 : tie.Need-same-length-2 Inv-loop μ-loop
-same-length-2 c = c .before .before .before .before .before .before .list-records .kept .1 .0 ∙ c .before .before .before .before .before .before .before .before .before .before .before .before .before .loop .inv .2
+same-length-2 c = c .before .before .before .before .before .before .before .list-records .kept .1 .0 ∙ c .before .before .before .before .before .before .before .before .before .before .before .before .before .before .loop .inv .2
 
 returns-2 : tie.Need-returns-2 Inv-loop μ-loop
 returns-2 c =
-    let loop = c .before .before .before .before .before .before .before .before .before .before .before .before .before .loop in
-    let held = c .before .before .before .before .before .before .before .before .before .before .before .before .before .before .before .before .args .held .now in
-    let b = buffer (loop .out) (c .before .before .before .before .before .before .before .before .before .before .make-room .result .waiting) in
-    let e = c .before .before .before .before .before .before .list-records .ensures in
-    let rest = rest-is held (loop .used) (c .before .before .before .before .before .before .before .before .before .before .before .before .loop-test .taken) in
-    let none : loop .used + c .before .before .before .before .before .before .list-records .result .used ≡ loop .used = omega (arith, c .before .if2 .taken) in
-    let room = le-leb 128 (length (loop .out) - b .next) (omega (arith, room-made (b .next) (loop .next) 128 (length (loop .out)) (c .before .before .before .before .before .before .before .before .before .before .make-room .ensures .0) (omega (arith, c .before .before .before .before .before .before .before .before .before .before .before .before .before .before .before .before .pre .1, loop .inv .2)))) in
+    let loop = c .before .before .before .before .before .before .before .before .before .before .before .before .before .before .loop in
+    let held = c .before .before .before .before .before .before .before .before .before .before .before .before .before .before .before .before .before .args .held .now in
+    let b = buffer (loop .out) (c .before .before .before .before .before .before .before .before .before .before .before .make-room .result .waiting) in
+    let e = c .before .before .before .before .before .before .before .list-records .ensures in
+    let rest = rest-is held (loop .used) (c .before .before .before .before .before .before .before .before .before .before .before .before .before .loop-test .taken) in
+    let inside : loop .used + c .before .before .before .before .before .before .before .list-records .result .used ≤ length held =
+    omega (arith, used-inside b (loop .after) _ e, ap length rest ∙ length-drop (loop .used) held, c .before .before .before .before .before .before .before .before .before .before .before .before .before .loop-test .taken) in
+    let other = sym (c .before .before .lacks-room .ensures) ∙ not-true _ (c .before .if2 .taken) in
+    let left = ap (drop (c .before .before .before .before .before .before .before .list-records .result .used)) rest ∙ drop-drop (c .before .before .before .before .before .before .before .list-records .result .used) (loop .used) held in
     rw (c .of2 .ensures) (
-      loop .inv .0,
-      next-inside b (loop .after) _ e (waits-inside _ _ _ _ (c .before .before .before .before .before .before .before .before .before .before .make-room .ensures .0)),
+      inside,
+      next-inside b (loop .after) _ e (waits-inside _ _ _ _ (c .before .before .before .before .before .before .before .before .before .before .before .make-room .ensures .0)),
       sound-after b (loop .after) _ e (loop .inv .3),
       λ _. (
-        subst (Along (c .before .before .before .before .before .before .before .before .before .before .before .before .before .before .before .before .args .totals) held (c .before .before .before .before .before .before .list-records .result .totals)) none (along-after b (loop .after) _ e _ held (loop .used) rest (loop .inv .4)),
-        subst (NoneLeft (c .before .before .before .before .before .before .list-records .result .totals)) rest (none-after b (loop .after) _ e (loop .inv .3) room (c .before .if2 .taken)),
+        listed-step b (loop .after) _ e (c .before .before .before .before .before .before .before .before .before .before .before .before .before .before .before .before .before .args .totals) (buffer (c .before .before .before .before .before .before .before .before .before .before .before .before .before .before .before .before .before .args .out .now) (c .before .before .before .before .before .before .before .before .before .before .before .before .before .before .before .before .before .args .waiting)) held (loop .used) rest
+            (listed-room _ _ held (loop .after) (loop .used) (loop .out) (loop .next) 128 (c .before .before .before .before .before .before .before .before .before .before .before .make-room .ensures .0) (loop .inv .4)),
+        subst (NoneLeft (c .before .before .before .before .before .before .before .list-records .result .totals)) left (none-after b (loop .after) _ e (loop .inv .3) other),
       ),
     )
-
-add-used : tie.Need-add-used Inv-loop μ-loop
-add-used c =
-    let loop = c .before .before .before .before .before .before .before .before .before .before .before .before .before .loop in
-    let held = c .before .before .before .before .before .before .before .before .before .before .before .before .before .before .before .before .args .held .now in
-    let long = ap length (rest-is held (loop .used) (c .before .before .before .before .before .before .before .before .before .before .before .before .loop-test .taken)) ∙ length-drop (loop .used) held in
-    record { fits = omega (arith, used-inside _ _ _ (c .before .before .before .before .before .before .list-records .ensures), long, c .before .before .before .before .before .before .before .before .before .before .before .before .loop-test .taken, c .before .before .before .before .before .before .before .before .before .before .before .before .before .before .before .before .good .0) }
 
 loop-less : tie.Need-loop-less Inv-loop μ-loop
 loop-less c =
     let loop = c .before .before .before .before .before .before .before .before .before .before .before .before .before .loop in
     let held = c .before .before .before .before .before .before .before .before .before .before .before .before .before .before .before .before .args .held .now in
-    let long = ap length (rest-is held (loop .used) (c .before .before .before .before .before .before .before .before .before .before .before .before .loop-test .taken)) ∙ length-drop (loop .used) held in
-    omega (arith, used-inside _ _ _ (c .before .before .before .before .before .before .list-records .ensures), long, c .before .before .before .before .before .before .before .before .before .before .before .before .loop-test .taken, c .before .if2 .left)
+    let b = buffer (loop .out) (c .before .before .before .before .before .before .before .before .before .before .make-room .result .waiting) in
+    let e = c .before .before .before .before .before .before .list-records .ensures in
+    let rest = rest-is held (loop .used) (c .before .before .before .before .before .before .before .before .before .before .before .before .loop-test .taken) in
+    let inside : loop .used + c .before .before .before .before .before .before .list-records .result .used ≤ length held =
+    omega (arith, used-inside b (loop .after) _ e, ap length rest ∙ length-drop (loop .used) held, c .before .before .before .before .before .before .before .before .before .before .before .before .loop-test .taken) in
+    let lacks = sym (c .before .lacks-room .ensures) ∙ not-false _ (c .if2 .left) in
+    let room = le-leb 128 (length (loop .out) - b .next) (omega (arith, room-made (b .next) (loop .next) 128 (length (loop .out)) (c .before .before .before .before .before .before .before .before .before .before .make-room .ensures .0) (omega (arith, c .before .before .before .before .before .before .before .before .before .before .before .before .before .before .before .before .pre .1, loop .inv .2)))) in
+    omega (arith, inside, some-used b (loop .after) _ e room lacks, c .before .before .before .before .before .before .before .before .before .before .before .before .loop-test .taken)
 
 loop-again : tie.Need-loop-again Inv-loop μ-loop
 loop-again c =
@@ -98,12 +115,14 @@ loop-again c =
     let b = buffer (loop .out) (c .before .before .before .before .before .before .before .before .before .before .make-room .result .waiting) in
     let e = c .before .before .before .before .before .before .list-records .ensures in
     let rest = rest-is held (loop .used) (c .before .before .before .before .before .before .before .before .before .before .before .before .loop-test .taken) in
-    let long = ap length rest ∙ length-drop (loop .used) held in (
-      omega (arith, used-inside b (loop .after) _ e, long, c .before .before .before .before .before .before .before .before .before .before .before .before .loop-test .taken),
+    let inside : loop .used + c .before .before .before .before .before .before .list-records .result .used ≤ length held =
+    omega (arith, used-inside b (loop .after) _ e, ap length rest ∙ length-drop (loop .used) held, c .before .before .before .before .before .before .before .before .before .before .before .before .loop-test .taken) in (
+      inside,
       next-inside b (loop .after) _ e (waits-inside _ _ _ _ (c .before .before .before .before .before .before .before .before .before .before .make-room .ensures .0)),
       c .before .before .before .before .before .before .list-records .kept .1 .0 ∙ loop .inv .2,
       sound-after b (loop .after) _ e (loop .inv .3),
-      along-after b (loop .after) _ e _ held (loop .used) rest (loop .inv .4),
+      listed-step b (loop .after) _ e (c .before .before .before .before .before .before .before .before .before .before .before .before .before .before .before .before .args .totals) (buffer (c .before .before .before .before .before .before .before .before .before .before .before .before .before .before .before .before .args .out .now) (c .before .before .before .before .before .before .before .before .before .before .before .before .before .before .before .before .args .waiting)) held (loop .used) rest
+          (listed-room _ _ held (loop .after) (loop .used) (loop .out) (loop .next) 128 (c .before .before .before .before .before .before .before .before .before .before .make-room .ensures .0) (loop .inv .4)),
     )
 
 of-requires-3 : tie.Need-of-requires-3 Inv-loop μ-loop
@@ -138,10 +157,11 @@ list-held-spec =
     part-list-records-start
     part-list-records-end
     list-records-requires
+    add-used
+    lacks-room-requires
     of-requires-2
     same-length-2
     returns-2
-    add-used
     loop-less
     loop-again
     of-requires-3
