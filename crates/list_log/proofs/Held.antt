@@ -7,20 +7,21 @@ use mathlib.Core.Path.{_≡_, refl, sym, ap, _∙_, subst}
 use mathlib.Core.Bool.{Bool, true, false, cond, true≢false}
 use mathlib.Core.List.{List, [], _∷_, _++_, append-assoc, append-nil}
 use lib.Dec.{leb}
-use lib.ListN.{length, take, drop, length-drop}
-use lib.Seq.{take-nil, drop-drop, paste, take-paste}
+use lib.ListN.{length, take, drop, length-drop, take-append-drop}
+use lib.Seq.{length-take-le, take-append-le, take-nil, drop-drop, paste, take-paste}
 use borrow.Author.Tests.{le-leb}
 use Rattle.felica_put.specs.Put.{Buffer, buffer, put}
 use Rattle.felica_put.proofs.Laws.{put-room, put-taken}
 use Rattle.felica_totals.specs.declared.Totals.{Totals}
+use Rattle.felica_totals.specs.Count.{noTotals}
 use Rattle.felica_stream.specs.Held.{moved, stillWaiting}
 use Rattle.felica_stream.proofs.Held.{room-made}
 use Rattle.felica_log.specs.declared.Stop.{Stop}
-use Rattle.felica_log.specs.Listing.{nothing, frameThen, front, recordsLeft, listingFrom}
+use Rattle.felica_log.specs.Listing.{nothing, frameThen, front, recordsLeft, listingFrom, listing}
 use Rattle.felica_log.specs.Step.{Reached, reached, lacksRoom, roomForLine, step}
 use Rattle.felica_log.specs.Rules.{lines, Sound, NoneLeft}
 use Rattle.felica_log.proofs.Rules.{step-lists, step-keeps, step-inside, sound-kept, none-left-behind, room-used}
-use Rattle.list_log.specs.Held.{ListedUpTo, RestKept, EndPut, over}
+use Rattle.list_log.specs.Held.{ListedUpTo, RestKept, ReadAndListed, EndPut, over}
 
 -- one step more
 module _ (b : Buffer) (u : Totals) (piece : List ℕ) {out : Buffer} {v : Totals} {n : ℕ} {stop : Stop} (e : reached out v n stop ≡ step b u piece) where
@@ -122,3 +123,34 @@ end-put out next w text {l} {n} e room short is =
     let whole : take (w + length text) l ≡ take w out ++ text =
     ap (λ (k : ℕ). take k l) (sym at) ∙ ap (λ (b : Buffer). take (b .next) (b .bytes)) is ∙ put-taken text out w fits in
     subst (λ (k : ℕ). take (k + length text) l ≡ take k out ++ text) e whole
+
+-- nothing is read yet
+pub read-none : (t : Totals) (out : List ℕ) → t ≡ noTotals → ReadAndListed t (buffer out 0) []
+unfolding listing
+read-none t out e = subst (λ (u : Totals). ReadAndListed u (buffer out 0) []) (sym e) (record { log = []; written = []; lists = λ behind. refl })
+
+-- One more piece is read behind the bytes held, and they are listed with it.
+read-split : (input : List ℕ) (held more : ℕ) → held ≤ more → more ≤ length input → take more input ≡ take held input ++ drop held (take more input)
+read-split input held more h k =
+    let long : length (take more input) ≡ more = length-take-le more input k in
+    let front : take held (take more input) ≡ take held input =
+    sym (take-append-le held (take more input) (drop more input) (omega (arith, long))) ∙ ap (take held) (take-append-drop more input) in
+    sym (take-append-drop held (take more input)) ∙ ap (λ (x : List ℕ). x ++ drop held (take more input)) front
+
+pub read-turn : (t : Totals) (a : Buffer) (before input : List ℕ) (held more : ℕ) (u : Totals) (c : Buffer) (rest : List ℕ) → held ≤ more → more ≤ length input
+    → take held input ≡ take held before → ReadAndListed t a (take held before) → RestKept t a (take more input) u c rest → ReadAndListed u c rest
+read-turn t a before input held more u c rest h k same r (used, all, is) =
+    let piece = drop held (take more input) in
+    let l = all .0 in
+    let split : take more input ≡ take held before ++ piece = read-split input held more h k ∙ ap (λ (x : List ℕ). x ++ piece) same in
+    let next : List ℕ → List ℕ = λ behind. listingFrom (recordsLeft u) u (rest ++ behind) in
+    record {
+      log = r .log ++ piece;
+      written = r .written ++ l .written;
+      lists = λ behind.
+          ap listing (append-assoc (r .log) piece behind) ∙ r .lists (piece ++ behind)
+          ∙ ap (λ (x : List ℕ). r .written ++ (take (a .next) (a .bytes) ++ listingFrom (recordsLeft t) t x)) (sym (append-assoc (take held before) piece behind) ∙ ap (λ (x : List ℕ). x ++ behind) (sym split))
+          ∙ ap (λ (x : List ℕ). r .written ++ (take (a .next) (a .bytes) ++ x)) (l .lists behind ∙ ap (λ (x : List ℕ). l .lines ++ listingFrom (recordsLeft u) u (x ++ behind)) (sym is))
+          ∙ ap (λ (x : List ℕ). r .written ++ x) (sym (append-assoc (take (a .next) (a .bytes)) (l .lines) (next behind)) ∙ ap (λ (x : List ℕ). x ++ next behind) (l .waits) ∙ append-assoc (l .written) (take (c .next) (c .bytes)) (next behind))
+          ∙ sym (append-assoc (r .written) (l .written) (take (c .next) (c .bytes) ++ next behind));
+    }

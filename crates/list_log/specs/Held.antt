@@ -10,7 +10,7 @@ use lib.ListN.{length, take, drop}
 use Rattle.felica_totals.specs.declared.Totals.{Totals}
 use Rattle.felica_put.specs.Put.{Buffer}
 use Rattle.felica_stream.specs.Held.{stillWaiting}
-use Rattle.felica_log.specs.Listing.{maxRecords, recordsLeft, listingFrom}
+use Rattle.felica_log.specs.Listing.{maxRecords, recordsLeft, listingFrom, listing}
 use Rattle.felica_log.specs.Step.{lineRoom}
 use Rattle.felica_log.specs.Rules.{NoneLeft}
 
@@ -30,6 +30,12 @@ AllListed t b held u c used = ListedUpTo t b held u c used × NoneLeft u (drop u
 -- The same, and the bytes left stand at the front of the input now.
 abbrev pub RestKept : Totals → Buffer → List ℕ → Totals → Buffer → List ℕ → Type 0
 RestKept t b held u c rest = (used : ℕ) × AllListed t b held u c used × (rest ≡ drop used held)
+
+-- Some log has been read: its listing is what was written, what waits, and the listing of the bytes held and what follows them.
+pub record ReadAndListed (t : Totals) (c : Buffer) (held : List ℕ) : Type 0 where
+  pub log : List ℕ
+  pub written : List ℕ
+  pub lists : (behind : List ℕ) → listing (log ++ behind) ≡ written ++ (take (c .next) (c .bytes) ++ listingFrom (recordsLeft t) t (held ++ behind))
 
 -- The last bytes that are written: those that wait, and a text behind them.
 abbrev pub EndPut : Buffer → List ℕ → List ℕ → Type 0

@@ -6,7 +6,7 @@ ghost use lib.ListN.{length, take};
 ghost use Rattle.felica_put.specs.Put.{buffer};
 ghost use Rattle.felica_log.specs.Step.{lineRoom, endText};
 ghost use Rattle.felica_log.specs.Rules.{Sound, NoneLeft};
-ghost use Rattle.list_log.specs.Held.{AllListed, RestKept, EndPut, over};
+ghost use Rattle.list_log.specs.Held.{AllListed, RestKept, ReadAndListed, EndPut, over};
 use felica_log::LINE_ROOM;
 use felica_log::MAX_RECORDS;
 use felica_log::end::put_end;
@@ -117,7 +117,7 @@ fn is_over(state: State, ended: bool) -> bool
 // Reads the log and lists its records. A proved loop has to end, and nothing says that the input does: the turns are counted down.
 fn feed(input: &mut [u8], out: &mut [u8]) -> State
     requires { ⌜ lineRoom ≤ length (now out) ⌝ }
-    ensures { λ r. ⌜ (r .held ≤ length (now (input .exit))) × (r .waiting ≤ length (now (out .exit))) × Sound (r .totals) × (r .«read_failed» ≡ false → r .«write_failed» ≡ false → NoneLeft (r .totals) (take (r .held) (now (input .exit)))) ⌝ }
+    ensures { λ r. ⌜ (r .held ≤ length (now (input .exit))) × (r .waiting ≤ length (now (out .exit))) × Sound (r .totals) × (r .«write_failed» ≡ false → ReadAndListed (r .totals) (buffer (now (out .exit)) (r .waiting)) (take (r .held) (now (input .exit)))) × (r .«read_failed» ≡ false → r .«write_failed» ≡ false → NoneLeft (r .totals) (take (r .held) (now (input .exit)))) ⌝ }
 {
     let mut held = 0;
     let mut waiting = 0;

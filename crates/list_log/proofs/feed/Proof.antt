@@ -6,15 +6,17 @@ use Prim.Native.Nat.{_≤_}
 use mathlib.Core.Path.{_≡_, refl, sym, _∙_, subst}
 use mathlib.Core.Bool.{true≢false}
 use lib.ListN.{length, take}
+use Rattle.felica_put.specs.Put.{buffer}
 use Rattle.felica_log.specs.Rules.{Sound, NoneLeft}
 use Rattle.felica_log.proofs.Rules.{sound-start}
-use Rattle.list_log.proofs.Held.{none-of, none-kept, not-over}
+use Rattle.list_log.specs.Held.{ReadAndListed}
+use Rattle.list_log.proofs.Held.{none-of, none-kept, not-over, read-none, read-turn}
 use Rattle.list_log.proofs.feed.Statement.{statement}
 use Rattle.list_log.proofs.feed.Tie as tie
 
 abbrev Inv-loop : tie.InvT-loop
 Inv-loop input₀ out₀ held₀ waiting₀ totals₀ turns₀ input out held waiting totals turns =
-    (held ≤ length input) × (waiting ≤ length out) × (length input ≡ length input₀) × (length out ≡ length out₀) × Sound totals × NoneLeft totals (take held input)
+    (held ≤ length input) × (waiting ≤ length out) × (length input ≡ length input₀) × (length out ≡ length out₀) × Sound totals × NoneLeft totals (take held input) × ReadAndListed totals (buffer out waiting) (take held input)
 
 abbrev μ-loop : tie.MeasureT-loop
 μ-loop input₀ out₀ held₀ waiting₀ totals₀ turns₀ input out held waiting totals turns = turns
@@ -23,7 +25,7 @@ new-requires : tie.Need-new-requires Inv-loop μ-loop
 new-requires c κs = search needs
 
 loop-holds : tie.Need-loop-holds Inv-loop μ-loop
-loop-holds c = (omega arith, omega arith, refl, refl, subst Sound (sym (c .new .ensures)) sound-start, none-of (c .new .result) _ refl)
+loop-holds c = (omega arith, omega arith, refl, refl, subst Sound (sym (c .new .ensures)) sound-start, none-of (c .new .result) _ refl, read-none (c .new .result) _ (c .new .ensures))
 
 read-more-requires : tie.Need-read-more-requires Inv-loop μ-loop
 read-more-requires c κs = search needs
@@ -36,8 +38,13 @@ same-length-2 c = c .before .before .before .before .before .before .loop .inv .
 
 returns : tie.Need-returns Inv-loop μ-loop
 returns c =
-    let loop = c .before .before .before .before .before .before .loop in
-    (omega (arith, loop .inv .0, c .before .before .before .read-more .kept .0), loop .inv .1, loop .inv .4, λ e _. absurd (true≢false e))
+    let loop = c .before .before .before .before .before .before .loop in (
+      omega (arith, loop .inv .0, c .before .before .before .read-more .kept .0),
+      loop .inv .1,
+      loop .inv .4,
+      λ _. subst (ReadAndListed (loop .totals) (buffer (loop .out) (loop .waiting))) (sym (c .before .before .before .read-more .ensures .2)) (loop .inv .6),
+      λ e _. absurd (true≢false e),
+    )
 
 list-input-requires : tie.Need-list-input-requires Inv-loop μ-loop
 list-input-requires c κs =
@@ -55,8 +62,9 @@ same-length-4 c = c .before .before .before .before .before .before .list-input 
 
 returns-2 : tie.Need-returns-2 Inv-loop μ-loop
 returns-2 c =
+    let loop = c .before .before .before .before .before .before .before .before .before .before .before .before .before .before .before .loop in
     let listed = c .before .before .before .before .before .before .list-input .ensures in
-    (listed .0, listed .1, listed .2, λ _ e. none-kept _ _ _ _ _ _ (listed .3 e))
+    (listed .0, listed .1, listed .2, λ e. read-turn (loop .totals) (buffer (loop .out) (loop .waiting)) (loop .input) _ (loop .held) _ _ _ _ (c .before .before .before .before .before .before .before .before .before .before .before .before .read-more .ensures .1 (loop .inv .0)) (c .before .before .before .before .before .before .before .before .before .before .before .before .read-more .ensures .0) (c .before .before .before .before .before .before .before .before .before .before .before .before .read-more .ensures .2) (loop .inv .6) (listed .3 e), λ _ e. none-kept _ _ _ _ _ _ (listed .3 e))
 
 sub-turns : tie.Need-sub-turns Inv-loop μ-loop
 sub-turns c = omega arith
@@ -75,6 +83,7 @@ loop-again c =
       c .before .before .before .before .before .before .before .list-input .kept .1 .1 .0 ∙ loop .inv .3,
       listed .2,
       none-kept _ _ _ _ _ _ (listed .3 written),
+      read-turn (loop .totals) (buffer (loop .out) (loop .waiting)) (loop .input) _ (loop .held) _ _ _ _ (c .before .before .before .before .before .before .before .before .before .before .before .before .before .read-more .ensures .1 (loop .inv .0)) (c .before .before .before .before .before .before .before .before .before .before .before .before .before .read-more .ensures .0) (c .before .before .before .before .before .before .before .before .before .before .before .before .before .read-more .ensures .2) (loop .inv .6) (listed .3 written),
     )
 
 same-length-5 : tie.Need-same-length-5 Inv-loop μ-loop
@@ -84,7 +93,7 @@ same-length-6 : tie.Need-same-length-6 Inv-loop μ-loop
 same-length-6 c = c .before .loop .inv .3
 
 returns-3 : tie.Need-returns-3 Inv-loop μ-loop
-returns-3 c = let loop = c .before .loop in (loop .inv .0, loop .inv .1, loop .inv .4, λ _ _. loop .inv .5)
+returns-3 c = let loop = c .before .loop in (loop .inv .0, loop .inv .1, loop .inv .4, λ _. loop .inv .6, λ _ _. loop .inv .5)
 
 pub feed-spec : {M : Type 1} → statement M
 feed-spec =
