@@ -1,9 +1,9 @@
 #!/usr/bin/env python3
-"""listings.py [CORPUS]: holds the program list_log to a corpus of logs and listings. Not part of the gate.
+"""listings.py [CORPUS]: holds the program list_log to logs whose listings are known, whole and in small pieces. Not part of the gate.
 
-CORPUS (default ../shared/corpus, from the root of the repository) has logs/NAME.log with logs/NAME.base, the listing expected of it, and full.tsv, logs of a million
-records as recipes: name, form, record in hexadecimal, how many times, bytes behind them in hexadecimal or -, and the SHA-256 of the listing. Build the program first:
-rt check list_log.
+The logs of this file need nothing else. CORPUS, a folder that is not part of this repository (../shared/corpus beside it is taken if it is there), has more: logs/NAME.log
+with logs/NAME.base, the listing expected of it, and full.tsv, logs of a million records as recipes: name, form, record in hexadecimal, how many times, the bytes behind
+them in hexadecimal or -, and the SHA-256 of the listing. Build the program first: rt check list_log.
 """
 import fcntl
 import hashlib
@@ -13,13 +13,23 @@ import subprocess
 import sys
 import termios
 import threading
+import time
 
 ROOT = pathlib.Path(__file__).resolve().parent.parent
 PROGRAM = ROOT / "target" / "bin" / "list_log"
+POLLING = bytes.fromhex("06060001020000")
+READ = bytes.fromhex("10100601020304050607080109100180FF")
 
 
 def listing(log):
     return subprocess.run([PROGRAM], input=log, stdout=subprocess.PIPE, check=True).stdout
+
+
+def wait_until_read(pipe, program):
+    deadline = time.monotonic() + 10
+    while struct.unpack("i", fcntl.ioctl(pipe, termios.FIONREAD, b"\0" * 4))[0]:
+        if program.poll() is not None or time.monotonic() > deadline:
+            sys.exit("listings: the program does not read its input")
 
 
 def listing_in_pieces(log, size):
@@ -31,41 +41,63 @@ def listing_in_pieces(log, size):
     for at in range(0, len(log), size):
         program.stdin.write(log[at : at + size])
         program.stdin.flush()
-        while struct.unpack("i", fcntl.ioctl(program.stdin, termios.FIONREAD, b"\0" * 4))[0]:
-            pass
+        wait_until_read(program.stdin, program)
     program.stdin.close()
     reader.join()
     program.wait()
     return lines[0]
 
 
-def main():
-    corpus = pathlib.Path(sys.argv[1]) if len(sys.argv) > 1 else ROOT.parent / "shared" / "corpus"
-    tried, differ = 0, []
+def lines_of(count, text):
+    return "".join(f"{n} {text}\n" for n in range(1, count + 1))
 
-    def hold(name, same):
-        nonlocal tried
-        tried += 1
-        if not same:
-            differ.append(name)
 
+def own_logs():
+    """Name, log and listing: the sample, the limit and what may stand behind it, and logs longer than any buffer of the program."""
+    sample = ROOT / "crates" / "list_log"
+    yield "sample", (sample / "stdin").read_bytes(), (sample / "stdout").read_text()
+    yield "nothing", b"", "TOTAL 0 0 0 0\n"
+    full = lines_of(1000000, "NO 1 --")
+    for name, behind, last in (
+        ("limit", "", ""),
+        ("limit and a record", "00", "FULL\n"),
+        ("limit and a cut record", "0501", "FULL\n"),
+    ):
+        yield name, bytes(1000000) + bytes.fromhex(behind), f"{full}{last}TOTAL 1000000 0 1000000 0\n"
+    yield "one less and cut", bytes(999999) + b"\5\1", lines_of(999999, "NO 1 --") + "CUT 4\nTOTAL 999999 0 999999 0\n"
+    yield "polling", POLLING * 40000, lines_of(40000, "OK 00 0 0 -") + "TOTAL 40000 40000 0 0\n"
+    yield "reads, cut", READ * 9000 + READ[:3], lines_of(9000, "OK 06 1 1 o") + "CUT 14\nTOTAL 9000 9000 0 9000\n"
+
+
+def corpus_logs(corpus):
     for path in sorted((corpus / "logs").glob("*.log")):
-        log, expected = path.read_bytes(), path.with_suffix(".base").read_bytes()
-        hold(path.name, listing(log) == expected)
-        if len(log) < 2000:
-            for size in (1, 3, 17):
-                hold(f"{path.name} in pieces of {size}", listing_in_pieces(log, size) == expected)
+        yield path.name, path.read_bytes(), path.with_suffix(".base").read_text()
+
+
+def corpus_recipes(corpus):
     for line in (corpus / "full.tsv").read_text().splitlines():
         name, form, record, times, behind, digest = line.split("\t")[:6]
-        if form != "old":
-            continue
-        log = bytes.fromhex(record) * int(times) + bytes.fromhex("" if behind == "-" else behind)
-        hold(name, hashlib.sha256(listing(log)).hexdigest() == digest)
-    if tried == 0:
-        sys.exit(f"listings: nothing to try in {corpus}")
+        if form == "old":
+            yield name, bytes.fromhex(record) * int(times) + bytes.fromhex("" if behind == "-" else behind), digest
+
+
+def main():
+    corpus = pathlib.Path(sys.argv[1]) if len(sys.argv) > 1 else ROOT.parent / "shared" / "corpus"
+    logs, recipes = list(own_logs()), []
+    if len(sys.argv) > 1 or corpus.is_dir():
+        logs += corpus_logs(corpus)
+        recipes = corpus_recipes(corpus)
+    results = []
+    for name, log, expected in logs:
+        results.append((name, listing(log) == expected.encode()))
+        if len(log) < 2000:
+            results += [(f"{name} in pieces of {size}", listing_in_pieces(log, size) == expected.encode()) for size in (1, 3, 17)]
+    for name, log, digest in recipes:
+        results.append((name, hashlib.sha256(listing(log)).hexdigest() == digest))
+    differ = [name for name, same in results if not same]
     for name in differ:
         print(f"differs: {name}")
-    print(f"{tried - len(differ)} listings as expected, {len(differ)} differ")
+    print(f"{len(results) - len(differ)} listings as expected, {len(differ)} differ")
     sys.exit(1 if differ else 0)
 
 

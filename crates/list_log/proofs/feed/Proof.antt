@@ -78,7 +78,7 @@ loop-again c =
     let listed = c .before .before .before .before .before .before .before .list-input .ensures in
     let written = not-over _ _ _ _ (sym (c .before .before .is-over .ensures) ∙ c .before .if2 .left) in (
       listed .0,
-      listed .1,
+      omega (arith, listed .1),
       c .before .before .before .before .before .before .before .list-input .kept .0 ∙ c .before .before .before .before .before .before .before .before .before .before .before .before .before .read-more .kept .0 ∙ loop .inv .2,
       c .before .before .before .before .before .before .before .list-input .kept .1 .1 .0 ∙ loop .inv .3,
       listed .2,
