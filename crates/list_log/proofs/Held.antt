@@ -1,15 +1,15 @@
 -- Steps over the bytes held, one behind another, and the rest of them moved to the front.
 -- Assumes nothing.
-use Prim.Native.Nat.{ℕ, zero, suc, _+_, _-_, _≤_}
+use Prim.Native.Nat.{ℕ, zero, suc, _+_, _-_, _≤_, _<_}
 use native.Mathlib.Nat.{zero-add, sub-zero}
 use native.Mathlib.Omega.{arith}
 use mathlib.Core.Path.{_≡_, refl, sym, ap, _∙_, subst}
-use mathlib.Core.Bool.{Bool, true, false, cond, true≢false}
+use mathlib.Core.Bool.{Bool, true, false, cond, _&&_, true≢false}
 use mathlib.Core.List.{List, [], _∷_, _++_, append-assoc, append-nil}
-use lib.Dec.{leb}
-use lib.ListN.{length, take, drop, length-drop, take-append-drop}
+use lib.Dec.{ltb, leb}
+use lib.ListN.{length, getD, take, drop, length-drop, take-append-drop}
 use lib.Seq.{length-take-le, take-append-le, take-nil, drop-drop, paste, take-paste}
-use borrow.Author.Tests.{le-leb}
+use borrow.Author.Tests.{ltb-false, leb-true, leb-false, le-leb}
 use Rattle.felica_put.specs.Put.{Buffer, buffer, put}
 use Rattle.felica_put.proofs.Laws.{put-room, put-taken}
 use Rattle.felica_totals.specs.declared.Totals.{Totals}
@@ -17,9 +17,10 @@ use Rattle.felica_totals.specs.Count.{noTotals}
 use Rattle.felica_stream.specs.Held.{moved, stillWaiting}
 use Rattle.felica_stream.proofs.Held.{room-made}
 use Rattle.felica_log.specs.declared.Stop.{Stop}
-use Rattle.felica_log.specs.Listing.{nothing, frameThen, front, recordsLeft, listingFrom, listing}
+use Rattle.felica_log.specs.Listing.{nothing, frameThen, front, maxRecords, recordsLeft, listingFrom, listing}
 use Rattle.felica_log.specs.Step.{Reached, reached, lacksRoom, roomForLine, step}
 use Rattle.felica_log.specs.Rules.{lines, Sound, NoneLeft}
+use Rattle.felica_log.proofs.Front.{front-whole}
 use Rattle.felica_log.proofs.Rules.{step-lists, step-keeps, step-inside, sound-kept, none-left-behind, room-used}
 use Rattle.list_log.specs.Held.{ListedUpTo, RestKept, ReadAndListed, EndPut, over}
 
@@ -123,6 +124,35 @@ end-put out next w text {l} {n} e room short is =
     let whole : take (w + length text) l ≡ take w out ++ text =
     ap (λ (k : ℕ). take k l) (sym at) ∙ ap (λ (b : Buffer). take (b .next) (b .bytes)) is ∙ put-taken text out w fits in
     subst (λ (k : ℕ). take (k + length text) l ≡ take k out ++ text) e whole
+
+-- what is left where none is: less than a record
+rest-short : (t : Totals) (s : List ℕ) → NoneLeft t s → t .records < maxRecords → getD s 0 0 < 256 → length s < 256
+rest-short t [] none few byte = omega arith
+rest-short t (x ∷ s) none few byte = go (leb x (length s)) refl
+  where
+    go : (whole : Bool) → leb x (length s) ≡ whole → suc (length s) < 256
+    go true e = let full = none (take x s) (drop x s) (front-whole x s (leb-true _ _ e)) in absurd (omega (arith, full, few))
+    go false e = omega (arith, leb-false x (length s) e, byte)
+
+first-byte : (n : ℕ) (s : List ℕ) → getD s 0 0 < 256 → getD (take n s) 0 0 < 256
+first-byte zero s h = omega arith
+first-byte (suc n) [] h = omega arith
+first-byte (suc n) (x ∷ s) h = h
+
+-- while it goes on, less than a record is held
+pub held-short : (ended failed : Bool) (t : Totals) (held : ℕ) (s : List ℕ) → over ended failed t held ≡ false → NoneLeft t (take held s) → held ≤ length s → getD s 0 0 < 256
+    → held < 256
+unfolding over
+held-short true failed t held s e none h byte = absurd (true≢false e)
+held-short false true t held s e none h byte = absurd (true≢false e)
+held-short false false t held s e none h byte = go (leb maxRecords (t .records)) refl (ltb 0 held) refl e
+  where
+    go : (full : Bool) → leb maxRecords (t .records) ≡ full → (some : Bool) → ltb 0 held ≡ some → (full && some) ≡ false → held < 256
+    go true f true g e = absurd (true≢false e)
+    go true f false g e = omega (arith, ltb-false 0 held g)
+    go false f some g e =
+        let short = rest-short t (take held s) none (leb-false maxRecords (t .records) f) (first-byte held s byte) in
+        omega (arith, short, length-take-le held s h)
 
 -- nothing is read yet
 pub read-none : (t : Totals) (out : List ℕ) → t ≡ noTotals → ReadAndListed t (buffer out 0) []

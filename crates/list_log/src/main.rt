@@ -1,6 +1,6 @@
 // Lists a log: reads it on standard input, and writes a line for each record to standard output.
 ghost use mathlib.Core.Path.{_≡_};
-ghost use Prim.Native.Nat.{_≤_};
+ghost use Prim.Native.Nat.{_≤_, _<_};
 ghost use mathlib.Core.Bool.{true, false};
 ghost use lib.ListN.{length, take};
 ghost use Rattle.felica_put.specs.Put.{buffer};
@@ -11,6 +11,7 @@ use felica_log::LINE_ROOM;
 use felica_log::MAX_RECORDS;
 use felica_log::end::put_end;
 use felica_log::step::list_records;
+use felica_stream::Input;
 use felica_stream::keep_rest;
 use felica_stream::make_room;
 use felica_stream::read_more;
@@ -114,9 +115,17 @@ fn is_over(state: State, ended: bool) -> bool
     0 < state.held
 }
 
+// There is room to read into, so that a read which brings nothing is the end of the log.
+fn read_piece(input: &mut [u8], held: usize) -> Input
+    requires { ⌜ held < length (now input) ⌝ }
+    ensures { λ r. ⌜ (r .held ≤ length (now (input .exit))) × (held ≤ r .held) × (take held (now (input .exit)) ≡ take held (now (input .entry))) ⌝ }
+{
+    read_more(input, held)
+}
+
 // Reads the log and lists its records. A proved loop has to end, and nothing says that the input does: the turns are counted down.
 fn feed(input: &mut [u8], out: &mut [u8]) -> State
-    requires { ⌜ lineRoom ≤ length (now out) ⌝ }
+    requires { ⌜ (256 ≤ length (now input)) × (lineRoom ≤ length (now out)) ⌝ }
     ensures { λ r. ⌜ (r .held ≤ length (now (input .exit))) × (r .waiting ≤ length (now (out .exit))) × Sound (r .totals) × (r .«write_failed» ≡ false → ReadAndListed (r .totals) (buffer (now (out .exit)) (r .waiting)) (take (r .held) (now (input .exit)))) × (r .«read_failed» ≡ false → r .«write_failed» ≡ false → NoneLeft (r .totals) (take (r .held) (now (input .exit)))) ⌝ }
 {
     let mut held = 0;
@@ -124,7 +133,7 @@ fn feed(input: &mut [u8], out: &mut [u8]) -> State
     let mut totals = Totals::new();
     let mut turns = u64::MAX;
     while 0 < turns {
-        let read = read_more(input, held);
+        let read = read_piece(input, held);
         if read.failed {
             return State {
                 held: held,
@@ -172,7 +181,7 @@ fn finish(rest: &[u8], out: &mut [u8], state: State) -> bool
 
 // A listing without TOTAL is not complete: then the error output says why.
 fn run(input: &mut [u8], out: &mut [u8])
-    requires { ⌜ lineRoom ≤ length (now out) ⌝ }
+    requires { ⌜ (256 ≤ length (now input)) × (lineRoom ≤ length (now out)) ⌝ }
 {
     let state = feed(input, out);
     let held = state.held;
