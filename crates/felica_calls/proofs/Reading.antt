@@ -17,7 +17,6 @@ use Rattle.felica_calls.specs.declared.source.Code.the-variants.{Code as
 use Rattle.felica_calls.specs.declared.fault.Fault.the-variants.{MissingField, ExtraField, CodeSize, NoDigit as NotADigit}
 use Rattle.felica_calls.specs.declared.bytes.Bytes.the-variants.{Wrong as WrongBytes}
 use Rattle.felica_put.specs.Put.{buffer, put}
-use lib.Seq.{take-all}
 use borrow.Author.Tests.{lt-ltb, le-ltb}
 use Rattle.felica_text.specs.declared.hex.Digit.the-variants.{Value, NoDigit}
 use Rattle.felica_put.proofs.Laws.{drop-next, put-front}
@@ -90,10 +89,6 @@ pub byte-one : (b : ℕ) (s : List ℕ) → length s ≡ 1 → isByte b s ≡ eq
 byte-one b [] h = absurd (omega arith)
 byte-one b (d ∷ []) h = refl
 byte-one b (d ∷ e ∷ s) h = absurd (omega arith)
-
--- a part that reaches to the end
-pub take-rest : (n : ℕ) (s : List ℕ) → take (length s - n) (drop n s) ≡ drop n s
-take-rest n s = take-all (length s - n) (drop n s) (omega (arith, length-drop n s))
 
 pub drop-none : (s : List ℕ) → length s ≡ 0 → s ≡ drop 1 s
 drop-none [] h = refl

@@ -22,8 +22,8 @@ use Rattle.felica_log.specs.Listing.{Front, nothing, cutBy, frameThen, f
 use Rattle.felica_log.specs.Listing.{listingFrom, listing}
 use Rattle.felica_log.specs.declared.Stop.{Stop}
 use Rattle.felica_log.specs.declared.Stop.the-variants.{AtEnd, AtLimit, AtCut, NoRoom, TotalsFull}
-use Rattle.felica_log.specs.Step.{lacksRoom, maxBlocks, roomForLine, step, restLine, endText}
-use Rattle.felica_log.specs.Rules.{lines, StepLists, StepKeeps, StepInside, Stopped, StopsExactly, SoundStart, SoundKept, SoundRoom, NoneLeft, NoneLeftBehind, RoomUsed, EndFits}
+use Rattle.felica_log.specs.Step.{lacksRoom, lineRoom, roomIn, maxBlocks, roomForLine, step, restLine, endText}
+use Rattle.felica_log.specs.Rules.{lines, StepLists, StepKeeps, StepInside, Stopped, StopsExactly, SoundStart, SoundKept, SoundRoom, NoneLeft, NothingLeftOver, NoneLeftBehind, RoomUsed, EndFits}
 use Rattle.felica_log.specs.Rules.{reads, steps, after, allRead, PiecesListed, EndListed, FullListed}
 use Rattle.felica_log.proofs.Front.{none-left}
 use Rattle.felica_log.proofs.StepResult.{StepResult, step-result}
@@ -81,7 +81,7 @@ step-inside b t piece =
 
 pub stops-exactly : StopsExactly
 stops-exactly b t piece =
-    subst (λ (n : ℕ). Stopped (step b t piece .stop) (step b t piece .out) (step b t piece .totals) (drop n piece)) (sym (used-far b t piece)) (result b t piece .stopped)
+    subst (λ (n : ℕ). Stopped (step b t piece .stop) (roomIn (step b t piece .out)) (step b t piece .totals) (drop n piece)) (sym (used-far b t piece)) (result b t piece .stopped)
 
 pub sound-start : SoundStart
 sound-start = record { few = omega arith; records = omega arith; blocks = omega arith }
@@ -103,31 +103,35 @@ nothing-whole e = let z : _≡_ {A = ℕ} 0 1 = cc in omega arith
 cut-whole : {missing : ℕ} {frame rest : List ℕ} → cutBy missing ≡ frameThen frame rest → ⊥
 cut-whole e = let z : _≡_ {A = ℕ} 0 1 = cc in omega arith
 
-stop-none : (stop : Stop) (b : Buffer) (t : Totals) (rest : List ℕ) → Stopped stop b t rest → lacksRoom stop ≡ false → hasRoom t maxBlocks ≡ true → NoneLeft t rest
+pub nothing-left-over : NothingLeftOver
 unfolding front
-stop-none AtEnd b t rest none other totals frame r e = absurd (nothing-whole (sym (ap front none) ∙ e))
-stop-none AtLimit b t rest (full, some) other totals frame r e = full
-stop-none AtCut b t rest (few, (missing, cut)) other totals frame r e = absurd (cut-whole (sym cut ∙ e))
-stop-none NoRoom b t rest short other totals frame r e = absurd (true≢false other)
-stop-none TotalsFull b t rest (whole, room, none) other totals frame r e = absurd (true≢false (sym totals ∙ none))
+nothing-left-over t [] h frame rest e = absurd (nothing-whole e)
+nothing-left-over t (x ∷ s) h frame rest e = absurd (omega arith)
+
+stop-none : (stop : Stop) (space : ℕ) (t : Totals) (rest : List ℕ) → Stopped stop space t rest → lacksRoom stop ≡ false → hasRoom t maxBlocks ≡ true → NoneLeft t rest
+stop-none AtEnd space t rest none other totals frame r e = nothing-left-over t rest (ap length none) frame r e
+stop-none AtLimit space t rest (full, some) other totals frame r e = full
+stop-none AtCut space t rest (few, (missing, cut)) other totals frame r e = absurd (cut-whole (sym cut ∙ e))
+stop-none NoRoom space t rest short other totals frame r e = absurd (true≢false other)
+stop-none TotalsFull space t rest (whole, room, none) other totals frame r e = absurd (true≢false (sym totals ∙ none))
 
 pub none-left-behind : NoneLeftBehind
 none-left-behind b t piece s other =
     let r = step b t piece in
-    stop-none (r .stop) (r .out) (r .totals) (drop (r .used) piece) (stops-exactly b t piece) other (sound-room (r .totals) (sound-kept b t piece s))
+    stop-none (r .stop) (roomIn (r .out)) (r .totals) (drop (r .used) piece) (stops-exactly b t piece) other (sound-room (r .totals) (sound-kept b t piece s))
 
-stop-short : (stop : Stop) (b : Buffer) (t : Totals) (rest : List ℕ) → Stopped stop b t rest → lacksRoom stop ≡ true → roomForLine b ≡ false
-stop-short AtEnd b t rest none lacks = absurd (true≢false (sym lacks))
-stop-short AtLimit b t rest none lacks = absurd (true≢false (sym lacks))
-stop-short AtCut b t rest none lacks = absurd (true≢false (sym lacks))
-stop-short NoRoom b t rest (whole, short) lacks = short
-stop-short TotalsFull b t rest none lacks = absurd (true≢false (sym lacks))
+stop-short : (stop : Stop) (space : ℕ) (t : Totals) (rest : List ℕ) → Stopped stop space t rest → lacksRoom stop ≡ true → leb lineRoom space ≡ false
+stop-short AtEnd space t rest none lacks = absurd (true≢false (sym lacks))
+stop-short AtLimit space t rest none lacks = absurd (true≢false (sym lacks))
+stop-short AtCut space t rest none lacks = absurd (true≢false (sym lacks))
+stop-short NoRoom space t rest (whole, short) lacks = short
+stop-short TotalsFull space t rest none lacks = absurd (true≢false (sym lacks))
 
 pub room-used : RoomUsed
 room-used b t piece room lacks e =
     let r = step b t piece in
     let still = result b t piece .still (sym (used-far b t piece) ∙ e) in
-    true≢false (sym room ∙ ap roomForLine (sym still) ∙ stop-short (r .stop) (r .out) (r .totals) (drop (r .used) piece) (stops-exactly b t piece) lacks)
+    true≢false (sym room ∙ ap roomForLine (sym still) ∙ stop-short (r .stop) (roomIn (r .out)) (r .totals) (drop (r .used) piece) (stops-exactly b t piece) lacks)
 
 cut-length : (missing : ℕ) → missing < 256 → length (cutLine missing) ≤ 8
 cut-length missing h = let digits = decimal-length 2 missing (omega arith) in simp length-append (omega arith)

@@ -5,52 +5,27 @@ use native.Mathlib.Nat.{add-comm}
 use native.Mathlib.Omega.{arith}
 use mathlib.Core.Path.{_≡_, refl, sym, ap, _∙_, subst}
 use mathlib.Core.Logic.{_⊎_, inl, inr}
-use mathlib.Core.Bool.{Bool, true, false, cond}
-use mathlib.Core.List.{List, [], _∷_, _++_, append-assoc, append-nil}
-use lib.Dec.{ltb, leb}
+use mathlib.Core.Bool.{Bool, true, false}
+use mathlib.Core.List.{List, [], _++_, append-assoc, append-nil}
 use lib.ListN.{length, take, drop, length-append, length-drop}
 use lib.Seq.{take-append-le, drop-append-le, drop-drop}
-use borrow.Author.Tests.{ltb-true, ltb-false, leb-true, leb-false, lt-leb, le-leb}
+use borrow.Author.Tests.{leb-true}
 use Rattle.felica_format.specs.Read.{readFrame}
 use Rattle.felica_put.specs.Put.{Buffer, put}
 use Rattle.felica_put.proofs.Laws.{put-append, put-room, kept}
 use Rattle.felica_totals.specs.declared.Totals.{Totals}
-use Rattle.felica_totals.specs.Count.{counted, hasRoom}
+use Rattle.felica_totals.specs.Count.{counted}
 use Rattle.felica_line.specs.Line.{recordLine, isAccepted, blocksIn}
 use Rattle.felica_line.proofs.Bounds.{blocks-few, line-length}
 use Rattle.felica_log.specs.declared.Stop.{Stop}
-use Rattle.felica_log.specs.declared.Stop.the-variants.{AtLimit, AtCut, NoRoom, TotalsFull}
 use Rattle.felica_log.specs.declared.ahead.Ahead.{Ahead}
 use Rattle.felica_log.specs.declared.ahead.Ahead.the-variants.{Frame, Stop as StopsBy}
 use Rattle.felica_log.specs.Listing.{countedAs, recordsLeft, listingFrom}
-use Rattle.felica_log.specs.Step.{Reached, reached, stepFrom}
-use Rattle.felica_log.specs.Rules.{WholeAhead, Stopped, Sound}
+use Rattle.felica_log.specs.Step.{Reached, reached, lineRoom, roomIn, stepFrom}
+use Rattle.felica_log.specs.Rules.{Stopped, Sound}
 use Rattle.felica_log.specs.Ahead.{aheadOf}
-use Rattle.felica_log.proofs.Front.{front-whole, front-cut, one-left}
-use Rattle.felica_log.proofs.Turn.{stops-is, stops-not, Lists, frame-ahead, counted-frame, counted-records, step-stopped, step-listed}
-
--- what a stop says of the rest
-ahead-stops : (b : Buffer) (t : Totals) (s : List ℕ) {stop : Stop} → aheadOf s (length (b .bytes) - b .next) t ≡ StopsBy stop → Stopped stop b t s
-unfolding aheadOf
-ahead-stops b t [] e = subst (λ (z : Stop). Stopped z b t []) (stops-is e) refl
-ahead-stops b t (x ∷ s) {stop} e =
-    go (leb 1000000 (t .records)) refl (ltb (length s) x) refl (ltb (length (b .bytes) - b .next) 128) refl (hasRoom t 255) refl e
-  where
-    is : {z : Stop} → StopsBy z ≡ StopsBy stop → Stopped z b t (x ∷ s) → Stopped stop b t (x ∷ s)
-    is e holds = subst (λ (z : Stop). Stopped z b t (x ∷ s)) (stops-is e) holds
-
-    whole : leb 1000000 (t .records) ≡ false → ltb (length s) x ≡ false → WholeAhead t (x ∷ s)
-    whole l c = (leb-false _ _ l, (take x s, drop x s, front-whole x s (ltb-false _ _ c)))
-
-    go : (limit : Bool) → leb 1000000 (t .records) ≡ limit → (cut : Bool) → ltb (length s) x ≡ cut → (short : Bool) → ltb (length (b .bytes) - b .next) 128 ≡ short
-        → (fits : Bool) → hasRoom t 255 ≡ fits
-        → cond limit (StopsBy AtLimit) (cond cut (StopsBy AtCut) (cond short (StopsBy NoRoom) (cond fits (Frame x) (StopsBy TotalsFull)))) ≡ StopsBy stop
-        → Stopped stop b t (x ∷ s)
-    go true l cut c short r fits f e = is e (leb-true _ _ l, λ q. let z = ap length q in omega arith)
-    go false l true c short r fits f e = is e (leb-false _ _ l, (x - length s, front-cut x s (ltb-true _ _ c)))
-    go false l false c true r fits f e = is e (whole l c, lt-leb 128 (length (b .bytes) - b .next) (ltb-true _ _ r))
-    go false l false c false r true f e = absurd (stops-not (sym e))
-    go false l false c false r false f e = is e (whole l c, le-leb 128 (length (b .bytes) - b .next) (ltb-false _ _ r), f)
+use Rattle.felica_log.proofs.Front.{front-whole, one-left}
+use Rattle.felica_log.proofs.Turn.{Lists, frame-ahead, stop-ahead, counted-frame, counted-records, step-stopped, step-listed}
 
 -- one more record in the listing of any log that goes on with s
 listing-next : (t : Totals) (s behind : List ℕ) (space size : ℕ) → Lists s space t size
@@ -83,10 +58,10 @@ pub record StepResult (b : Buffer) (t : Totals) (used : ℕ) (s : List ℕ) (r :
   pub inside : far ≤ length s
   pub still : far ≡ 0 → r .out ≡ b
   pub lists : (behind : List ℕ) → listingFrom (recordsLeft t) t (s ++ behind) ≡ text ++ listingFrom (recordsLeft (r .totals)) (r .totals) (drop far s ++ behind)
-  pub stopped : Stopped (r .stop) (r .out) (r .totals) (drop far s)
+  pub stopped : Stopped (r .stop) (roomIn (r .out)) (r .totals) (drop far s)
   pub sound : Sound t → Sound (r .totals)
 
-stopped-here : (b : Buffer) (t : Totals) (used : ℕ) (s : List ℕ) {stop : Stop} → aheadOf s (length (b .bytes) - b .next) t ≡ StopsBy stop → StepResult b t used s (reached b t used stop)
+stopped-here : (b : Buffer) (t : Totals) (used : ℕ) (s : List ℕ) {stop : Stop} → aheadOf s (roomIn b) t ≡ StopsBy stop → StepResult b t used s (reached b t used stop)
 unfolding put
 stopped-here b t used s e = record {
   text = [];
@@ -97,12 +72,12 @@ stopped-here b t used s e = record {
   inside = omega arith;
   still = λ e. refl;
   lists = λ behind. refl;
-  stopped = ahead-stops b t s e;
+  stopped = stop-ahead s (roomIn b) t e;
   sound = λ h. h;
 }
 
 -- the room for a line and for what a step puts behind it
-room-both : (b : Buffer) (line text : List ℕ) → length line ≤ 128 → 128 ≤ length (b .bytes) - b .next
+room-both : (b : Buffer) (line text : List ℕ) → length line ≤ lineRoom → lineRoom ≤ roomIn b
     → (put b line .next + length text ≤ length (put b line .bytes)) ⊎ (text ≡ []) → b .next + length (line ++ text) ≤ length (b .bytes)
 room-both b line text short space (inl h) =
     let fits : b .next + length line ≤ length (b .bytes) = omega arith in
@@ -112,7 +87,7 @@ room-both b line text short space (inl h) =
 room-both b line text short space (inr e) = rw (e, append-nil line) (omega arith)
 
 -- one more record, and the result of the step behind it
-one-more : (b : Buffer) (t : Totals) (used : ℕ) (s : List ℕ) (size : ℕ) {r : Reached} → Lists s (length (b .bytes) - b .next) t size
+one-more : (b : Buffer) (t : Totals) (used : ℕ) (s : List ℕ) (size : ℕ) {r : Reached} → Lists s (roomIn b) t size
     → StepResult (put b (recordLine (t .records + 1) (readFrame (take size (drop 1 s))))) (countedAs t (readFrame (take size (drop 1 s)))) (used + (size + 1)) (drop (size + 1) s) r
     → StepResult b t used s r
 one-more b t used s size {r} l rest =
@@ -124,14 +99,14 @@ one-more b t used s size {r} l rest =
       text = line ++ rest .text;
       far = size + 1 + rest .far;
       puts = rest .puts ∙ sym (put-append b line (rest .text));
-      room = inl (room-both b line (rest .text) (line-length (t .records + 1) frame (omega (arith, few))) (l .line) (rest .room));
+      room = inl (room-both b line (rest .text) (line-length (t .records + 1) frame (omega (arith, few))) (leb-true lineRoom (roomIn b) (l .line)) (rest .room));
       uses = rest .uses ∙ omega arith;
       inside = omega (arith, rest .inside, length-drop (size + 1) s, l .whole);
       still = λ e. absurd (omega arith);
       lists = λ behind.
           listing-next t s behind _ size l ∙ ap (λ (x : List ℕ). line ++ x) (rest .lists behind ∙ ap (λ (x : List ℕ). rest .text ++ listingFrom (recordsLeft (r .totals)) (r .totals) (x ++ behind)) there)
           ∙ sym (append-assoc line (rest .text) _);
-      stopped = subst (Stopped (r .stop) (r .out) (r .totals)) there (rest .stopped);
+      stopped = subst (Stopped (r .stop) (roomIn (r .out)) (r .totals)) there (rest .stopped);
       sound = λ h. rest .sound (counted-sound t frame few h);
     }
 
@@ -139,19 +114,19 @@ one-less : (t : Totals) (frame : List ℕ) (n : ℕ) → recordsLeft t ≡ suc n
 one-less t frame n e = counted-records t (isAccepted (readFrame frame)) (blocksIn (readFrame frame)) ∙ omega arith
 
 pub step-result : (n : ℕ) (b : Buffer) (t : Totals) (used : ℕ) (s : List ℕ) → recordsLeft t ≡ n → StepResult b t used s (stepFrom (recordsLeft t) b t used s)
-step-result zero b t used s left = go (aheadOf s (length (b .bytes) - b .next) t) refl
+step-result zero b t used s left = go (aheadOf s (roomIn b) t) refl
   where
-    go : (a : Ahead) → aheadOf s (length (b .bytes) - b .next) t ≡ a → StepResult b t used s (stepFrom (recordsLeft t) b t used s)
+    go : (a : Ahead) → aheadOf s (roomIn b) t ≡ a → StepResult b t used s (stepFrom (recordsLeft t) b t used s)
     go (StopsBy stop) e = subst (StepResult b t used s) (sym (step-stopped b t used s e)) (stopped-here b t used s e)
-    go (Frame size) e = let few = frame-ahead s (length (b .bytes) - b .next) t e .few in absurd (omega arith)
-step-result (suc n) b t used s left = go (aheadOf s (length (b .bytes) - b .next) t) refl (λ c u k l. step-result n c u k l)
+    go (Frame size) e = let few = frame-ahead s (roomIn b) t e .few in absurd (omega arith)
+step-result (suc n) b t used s left = go (aheadOf s (roomIn b) t) refl (λ c u k l. step-result n c u k l)
   where
-    go : (a : Ahead) → aheadOf s (length (b .bytes) - b .next) t ≡ a
+    go : (a : Ahead) → aheadOf s (roomIn b) t ≡ a
         → ((c : Buffer) (u : Totals) (k : ℕ) (l : List ℕ) → recordsLeft u ≡ n → StepResult c u k l (stepFrom (recordsLeft u) c u k l))
         → StepResult b t used s (stepFrom (recordsLeft t) b t used s)
     go (StopsBy stop) e later = subst (StepResult b t used s) (sym (step-stopped b t used s e)) (stopped-here b t used s e)
     go (Frame size) e later =
-        let l = frame-ahead s (length (b .bytes) - b .next) t e in
+        let l = frame-ahead s (roomIn b) t e in
         let frame = take size (drop 1 s) in
         let u = countedAs t (readFrame frame) in
         subst (StepResult b t used s) (sym (step-listed b t used s size l refl (sym (counted-frame t frame (l .counts)))))

@@ -9,12 +9,13 @@ use mathlib.Core.Bool.{Bool, true, false, cond}
 use mathlib.Core.List.{List, [], _∷_}
 use lib.Dec.{ltb, leb}
 use lib.ListN.{length, getD, take, drop, length-drop}
-use lib.Seq.{length-take-le, take-all, drop-drop}
+use lib.Seq.{length-take-le, drop-drop}
 use borrow.Author.Tests.{ltb-true, ltb-false, leb-true, leb-false, lt-ltb, lt-leb, le-leb}
 use Rattle.felica_format.specs.Read.{readFrame}
 use Rattle.felica_format.specs.Basic.{_and_}
 use Rattle.felica_format.proofs.Tests.{and-both}
 use Rattle.felica_put.specs.Put.{Buffer, put}
+use Rattle.felica_put.proofs.Laws.{take-rest}
 use Rattle.felica_totals.specs.declared.Totals.{Totals}
 use Rattle.felica_totals.specs.Count.{counted, hasRoom, countedWithin}
 use Rattle.felica_totals.proofs.Room.{room, counted-with-room}
@@ -22,9 +23,11 @@ use Rattle.felica_line.specs.Line.{recordLine, isAccepted, blocksIn}
 use Rattle.felica_line.proofs.Bounds.{blocks-few}
 use Rattle.felica_log.specs.declared.Stop.{Stop}
 use Rattle.felica_log.specs.declared.Stop.the-variants.{AtEnd, AtLimit, AtCut, NoRoom, TotalsFull}
+use Rattle.felica_log.specs.declared.ahead.Ahead.{Ahead}
 use Rattle.felica_log.specs.declared.ahead.Ahead.the-variants.{Frame, Stop as StopsBy}
-use Rattle.felica_log.specs.Listing.{front, countedAs, recordsLeft}
-use Rattle.felica_log.specs.Step.{Reached, reached, stepFrom}
+use Rattle.felica_log.specs.Listing.{front, countedAs, maxRecords, recordsLeft}
+use Rattle.felica_log.specs.Step.{Reached, reached, lineRoom, roomIn, maxBlocks, stepFrom}
+use Rattle.felica_log.specs.Rules.{WholeAhead, Stopped}
 use Rattle.felica_log.specs.Ahead.{aheadOf}
 use Rattle.felica_log.proofs.Front.{front-whole, front-cut, front-some, none-left, one-left}
 
@@ -44,69 +47,67 @@ unfolding aheadOf
 ahead-some [] space t some = absurd (some refl)
 ahead-some (x ∷ s) space t some = let n : suc (length s) - 1 ≡ length s = omega arith in rw n
 
-pub stops-is : {a b : Stop} → StopsBy a ≡ StopsBy b → a ≡ b
-stops-is e = cc
+-- what is known where a record is to be listed
+pub record Lists (s : List ℕ) (space : ℕ) (t : Totals) (size : ℕ) : Type 0 where
+  pub few : t .records < maxRecords
+  pub whole : size < length s
+  pub is : s ≡ size ∷ drop 1 s
+  pub line : leb lineRoom space ≡ true
+  pub counts : hasRoom t maxBlocks ≡ true
 
-frame-is : {a b : ℕ} → Frame a ≡ Frame b → a ≡ b
-frame-is e = cc
+-- what `aheadOf` says of the rest, the buffer's room and the totals
+abbrev Says : Ahead → List ℕ → ℕ → Totals → Type 0
+Says (Frame size) s space t = Lists s space t size
+Says (StopsBy stop) s space t = Stopped stop space t s
 
-pub stops-not : {a : Stop} {size : ℕ} → StopsBy a ≡ Frame size → ⊥
-stops-not e = let z : _≡_ {A = ℕ} 0 1 = cc in omega arith
+ahead-says : (s : List ℕ) (space : ℕ) (t : Totals) → Says (aheadOf s space t) s space t
+unfolding aheadOf
+ahead-says [] space t = refl
+ahead-says (x ∷ s) space t = go (leb maxRecords (t .records)) refl (ltb (length s) x) refl (ltb space lineRoom) refl (hasRoom t maxBlocks) refl
+  where
+    ahead : leb maxRecords (t .records) ≡ false → ltb (length s) x ≡ false → WholeAhead t (x ∷ s)
+    ahead l c = (leb-false _ _ l, (take x s, drop x s, front-whole x s (ltb-false _ _ c)))
 
--- the step stops where `aheadOf` says so
+    go : (limit : Bool) → leb maxRecords (t .records) ≡ limit → (cut : Bool) → ltb (length s) x ≡ cut → (short : Bool) → ltb space lineRoom ≡ short
+        → (fits : Bool) → hasRoom t maxBlocks ≡ fits
+        → Says (cond limit (StopsBy AtLimit) (cond cut (StopsBy AtCut) (cond short (StopsBy NoRoom) (cond fits (Frame x) (StopsBy TotalsFull))))) (x ∷ s) space t
+    go true l cut c short r fits f = (leb-true _ _ l, λ q. let z = ap length q in omega arith)
+    go false l true c short r fits f = (leb-false _ _ l, (x - length s, front-cut x s (ltb-true _ _ c)))
+    go false l false c true r fits f = (ahead l c, lt-leb lineRoom space (ltb-true _ _ r))
+    go false l false c false r true f = record {
+      few = leb-false _ _ l;
+      whole = let h : x ≤ length s = ltb-false _ _ c in omega arith;
+      is = refl;
+      line = le-leb lineRoom space (ltb-false _ _ r);
+      counts = f;
+    }
+    go false l false c false r false f = (ahead l c, le-leb lineRoom space (ltb-false _ _ r), f)
+
+pub frame-ahead : (s : List ℕ) (space : ℕ) (t : Totals) {size : ℕ} → aheadOf s space t ≡ Frame size → Lists s space t size
+frame-ahead s space t e = subst (λ (a : Ahead). Says a s space t) e (ahead-says s space t)
+
+pub stop-ahead : (s : List ℕ) (space : ℕ) (t : Totals) {stop : Stop} → aheadOf s space t ≡ StopsBy stop → Stopped stop space t s
+stop-ahead s space t e = subst (λ (a : Ahead). Says a s space t) e (ahead-says s space t)
+
+-- the step stops there
 pub step-ended : (n : ℕ) (b : Buffer) (t : Totals) (used : ℕ) (s : List ℕ) → length s ≡ 0 → stepFrom n b t used s ≡ reached b t used AtEnd
 unfolding stepFrom front
 step-ended zero b t used [] e = refl
 step-ended (suc n) b t used [] e = refl
 step-ended n b t used (x ∷ s) e = absurd (omega arith)
 
-pub step-stopped : (b : Buffer) (t : Totals) (used : ℕ) (s : List ℕ) {stop : Stop} → aheadOf s (length (b .bytes) - b .next) t ≡ StopsBy stop
+step-stops : (stop : Stop) (b : Buffer) (t : Totals) (used : ℕ) (s : List ℕ) → Stopped stop (roomIn b) t s → stepFrom (recordsLeft t) b t used s ≡ reached b t used stop
+unfolding stepFrom
+step-stops AtEnd b t used s none = step-ended (recordsLeft t) b t used s (ap length none)
+step-stops AtLimit b t used [] (full, some) = absurd (some refl)
+step-stops AtLimit b t used (x ∷ s) (full, some) = rw (none-left t full, front-some x s AtEnd AtLimit)
+step-stops AtCut b t used s (few, (missing, cut)) = rw (one-left t few, cut)
+step-stops NoRoom b t used s ((few, (frame, rest, whole)), short) = rw (one-left t few, whole, short)
+step-stops TotalsFull b t used s ((few, (frame, rest, whole)), space, none) = rw (one-left t few, whole, space, none)
+
+pub step-stopped : (b : Buffer) (t : Totals) (used : ℕ) (s : List ℕ) {stop : Stop} → aheadOf s (roomIn b) t ≡ StopsBy stop
     → stepFrom (recordsLeft t) b t used s ≡ reached b t used stop
-unfolding aheadOf stepFrom
-step-stopped b t used [] e = step-ended (recordsLeft t) b t used [] refl ∙ ap (reached b t used) (stops-is e)
-step-stopped b t used (x ∷ s) {stop} e =
-    go (leb 1000000 (t .records)) refl (ltb (length s) x) refl (ltb (length (b .bytes) - b .next) 128) refl (hasRoom t 255) refl e
-  where
-    go : (limit : Bool) → leb 1000000 (t .records) ≡ limit → (cut : Bool) → ltb (length s) x ≡ cut → (short : Bool) → ltb (length (b .bytes) - b .next) 128 ≡ short
-        → (fits : Bool) → hasRoom t 255 ≡ fits
-        → cond limit (StopsBy AtLimit) (cond cut (StopsBy AtCut) (cond short (StopsBy NoRoom) (cond fits (Frame x) (StopsBy TotalsFull)))) ≡ StopsBy stop
-        → stepFrom (recordsLeft t) b t used (x ∷ s) ≡ reached b t used stop
-    go true l cut c short r fits f e = rw (none-left t (leb-true _ _ l), front-some x s AtEnd AtLimit) (ap (reached b t used) (stops-is e))
-    go false l true c short r fits f e = rw (one-left t (leb-false _ _ l), front-cut x s (ltb-true _ _ c)) (ap (reached b t used) (stops-is e))
-    go false l false c true r fits f e =
-        rw (one-left t (leb-false _ _ l), front-whole x s (ltb-false _ _ c), lt-leb 128 (length (b .bytes) - b .next) (ltb-true _ _ r)) (ap (reached b t used) (stops-is e))
-    go false l false c false r true f e = absurd (stops-not (sym e))
-    go false l false c false r false f e =
-        rw (one-left t (leb-false _ _ l), front-whole x s (ltb-false _ _ c), le-leb 128 (length (b .bytes) - b .next) (ltb-false _ _ r), f)
-        (ap (reached b t used) (stops-is e))
-
--- what is known where a record is to be listed
-pub record Lists (s : List ℕ) (space : ℕ) (t : Totals) (size : ℕ) : Type 0 where
-  pub few : t .records < 1000000
-  pub whole : size < length s
-  pub is : s ≡ size ∷ drop 1 s
-  pub line : 128 ≤ space
-  pub counts : hasRoom t 255 ≡ true
-
-pub frame-ahead : (s : List ℕ) (space : ℕ) (t : Totals) {size : ℕ} → aheadOf s space t ≡ Frame size → Lists s space t size
-unfolding aheadOf
-frame-ahead [] space t e = absurd (stops-not e)
-frame-ahead (x ∷ s) space t {size} e = go (leb 1000000 (t .records)) refl (ltb (length s) x) refl (ltb space 128) refl (hasRoom t 255) refl e
-  where
-    go : (limit : Bool) → leb 1000000 (t .records) ≡ limit → (cut : Bool) → ltb (length s) x ≡ cut → (short : Bool) → ltb space 128 ≡ short → (fits : Bool) → hasRoom t 255 ≡ fits
-        → cond limit (StopsBy AtLimit) (cond cut (StopsBy AtCut) (cond short (StopsBy NoRoom) (cond fits (Frame x) (StopsBy TotalsFull)))) ≡ Frame size
-        → Lists (x ∷ s) space t size
-    go true l cut c short r fits f e = absurd (stops-not e)
-    go false l true c short r fits f e = absurd (stops-not e)
-    go false l false c true r fits f e = absurd (stops-not e)
-    go false l false c false r true f e = record {
-      few = leb-false _ _ l;
-      whole = let h : x ≤ length s = ltb-false _ _ c in let q = frame-is e in omega arith;
-      is = ap (λ (n : ℕ). n ∷ s) (frame-is e);
-      line = ltb-false _ _ r;
-      counts = f;
-    }
-    go false l false c false r false f e = absurd (stops-not e)
+step-stopped b t used s {stop} e = step-stops stop b t used s (stop-ahead s (roomIn b) t e)
 
 -- totals that have room for 255 blocks have room for those of a frame
 pub counted-frame : (t : Totals) (frame : List ℕ) → hasRoom t 255 ≡ true
@@ -124,7 +125,7 @@ counted-records t true blocks = refl
 counted-records t false blocks = refl
 
 -- one more record
-listed-next : (b : Buffer) (t : Totals) (used size : ℕ) (s : List ℕ) → Lists (size ∷ s) (length (b .bytes) - b .next) t size
+listed-next : (b : Buffer) (t : Totals) (used size : ℕ) (s : List ℕ) → Lists (size ∷ s) (roomIn b) t size
     → stepFrom (recordsLeft t) b t used (size ∷ s)
     ≡ stepFrom (recordsLeft (countedAs t (readFrame (take size s)))) (put b (recordLine (t .records + 1) (readFrame (take size s)))) (countedAs t (readFrame (take size s)))
     (used + (size + 1)) (drop size s)
@@ -133,9 +134,9 @@ listed-next b t used size s l =
     let long : size ≤ length s = (let h = l .whole in omega arith) in
     let behind : suc (length (take size s)) ≡ size + 1 = ap suc (length-take-le size s long) ∙ sym (add-one size) in
     let left = counted-records t (isAccepted (readFrame (take size s))) (blocksIn (readFrame (take size s))) in
-    rw (one-left t (l .few), front-whole size s long, le-leb 128 (length (b .bytes) - b .next) (l .line), l .counts, left, behind)
+    rw (one-left t (l .few), front-whole size s long, l .line, l .counts, left, behind)
 
-pub step-listed : (b : Buffer) (t : Totals) (used : ℕ) (s : List ℕ) (size : ℕ) {c : Buffer} {u : Totals} → Lists s (length (b .bytes) - b .next) t size
+pub step-listed : (b : Buffer) (t : Totals) (used : ℕ) (s : List ℕ) (size : ℕ) {c : Buffer} {u : Totals} → Lists s (roomIn b) t size
     → c ≡ put b (recordLine (t .records + 1) (readFrame (take size (drop 1 s))))
     → u ≡ countedWithin t (isAccepted (readFrame (take size (drop 1 s)))) (blocksIn (readFrame (take size (drop 1 s))))
     → stepFrom (recordsLeft t) b t used s ≡ stepFrom (recordsLeft u) c u (used + (size + 1)) (drop (size + 1) s)
@@ -145,36 +146,32 @@ step-listed b t used s size {c} {u} l e q =
     let counts : countedAs t (readFrame frame) ≡ u = sym (q ∙ counted-frame t frame (l .counts)) in
     let rest : drop size (drop 1 s) ≡ drop (size + 1) s = drop-drop size 1 s ∙ ap (λ (n : ℕ). drop n s) (add-comm 1 size) in
     ap (stepFrom (recordsLeft t) b t used) (l .is)
-    ∙ listed-next b t used size (drop 1 s) (subst (λ (m : List ℕ). Lists m (length (b .bytes) - b .next) t size) (l .is) l)
+    ∙ listed-next b t used size (drop 1 s) (subst (λ (m : List ℕ). Lists m (roomIn b) t size) (l .is) l)
     ∙ ap (λ (v : Totals). stepFrom (recordsLeft v) (put b line) v (used + (size + 1)) (drop size (drop 1 s))) counts
     ∙ ap (λ (d : Buffer). stepFrom (recordsLeft u) d u (used + (size + 1)) (drop size (drop 1 s))) (sym e)
     ∙ ap (stepFrom (recordsLeft u) c u (used + (size + 1))) rest
-
--- the rest of a piece
-pub rest-is : (piece : List ℕ) (used : ℕ) → used < length piece → take (length piece - used) (drop used piece) ≡ drop used piece
-rest-is piece used h = take-all (length piece - used) (drop used piece) (rw (length-drop used piece) (omega arith))
 
 pub frame-inside : (piece : List ℕ) (used space : ℕ) (t : Totals) {size : ℕ} → used < length piece
     → aheadOf (take (length piece - used) (drop used piece)) space t ≡ Frame size → used + (size + 1) ≤ length piece
 frame-inside piece used space t h e =
     let whole = frame-ahead _ space t e .whole in
-    let long = ap length (rest-is piece used h) ∙ length-drop used piece in
+    let long = ap length (take-rest used piece) ∙ length-drop used piece in
     omega (arith, whole, long, h)
 
 -- The loop's invariant is stated of what is left: going on from here gives what the whole step gives. `rest` is the piece from `used` on, `space` the buffer's room.
 module _ (piece : List ℕ) (b : Buffer) (t : Totals) (used : ℕ) {all : Reached} where
-  pub turn-stopped : (rest : List ℕ) (space : ℕ) {stop : Stop} → rest ≡ drop used piece → space ≡ length (b .bytes) - b .next → aheadOf rest space t ≡ StopsBy stop
+  pub turn-stopped : (rest : List ℕ) (space : ℕ) {stop : Stop} → rest ≡ drop used piece → space ≡ roomIn b → aheadOf rest space t ≡ StopsBy stop
       → stepFrom (recordsLeft t) b t used (drop used piece) ≡ all → reached b t used stop ≡ all
   turn-stopped rest space is room e inv =
-      sym (step-stopped b t used (drop used piece) (ap (λ (l : List ℕ). aheadOf l (length (b .bytes) - b .next) t) (sym is) ∙ ap (λ (n : ℕ). aheadOf rest n t) (sym room) ∙ e)) ∙ inv
+      sym (step-stopped b t used (drop used piece) (ap (λ (l : List ℕ). aheadOf l (roomIn b) t) (sym is) ∙ ap (λ (n : ℕ). aheadOf rest n t) (sym room) ∙ e)) ∙ inv
 
   pub turn-listed : (rest frame : List ℕ) (space size : ℕ) {c : Buffer} {u : Totals} {accepted : Bool} {blocks : ℕ} → rest ≡ drop used piece
-      → frame ≡ take size (drop 1 rest) → space ≡ length (b .bytes) - b .next → aheadOf rest space t ≡ Frame size
+      → frame ≡ take size (drop 1 rest) → space ≡ roomIn b → aheadOf rest space t ≡ Frame size
       → c ≡ put b (recordLine (t .records + 1) (readFrame frame)) → accepted ≡ isAccepted (readFrame frame) → blocks ≡ blocksIn (readFrame frame)
       → u ≡ countedWithin t accepted blocks → stepFrom (recordsLeft t) b t used (drop used piece) ≡ all
       → stepFrom (recordsLeft u) c u (used + (size + 1)) (drop (used + (size + 1)) piece) ≡ all
   turn-listed rest frame space size {c} {u} is cut room e line acc blk count inv =
-      let lists = subst (λ (l : List ℕ). Lists l (length (b .bytes) - b .next) t size) is (subst (λ (n : ℕ). Lists rest n t size) room (frame-ahead rest space t e)) in
+      let lists = subst (λ (l : List ℕ). Lists l (roomIn b) t size) is (subst (λ (n : ℕ). Lists rest n t size) room (frame-ahead rest space t e)) in
       let here : frame ≡ take size (drop 1 (drop used piece)) = cut ∙ ap (λ (l : List ℕ). take size (drop 1 l)) is in
       let text = line ∙ ap (λ (f : List ℕ). put b (recordLine (t .records + 1) (readFrame f))) here in
       let counts : u ≡ countedWithin t (isAccepted (readFrame (take size (drop 1 (drop used piece))))) (blocksIn (readFrame (take size (drop 1 (drop used piece))))) = count ∙ rw (acc, blk, here) in

@@ -4,6 +4,7 @@ use Prim.Native.Nat.{ℕ, _+_, _-_, _*_, _≤_, _<_}
 use mathlib.Core.Path.{_≡_}
 use mathlib.Core.Bool.{true, false}
 use mathlib.Core.List.{List, [], _∷_, _++_}
+use lib.Dec.{leb}
 use lib.ListN.{length, getD, take, drop}
 use Rattle.felica_put.specs.Put.{Buffer}
 use Rattle.felica_totals.specs.declared.Totals.{Totals}
@@ -11,7 +12,7 @@ use Rattle.felica_totals.specs.Count.{noTotals, hasRoom}
 use Rattle.felica_log.specs.declared.Stop.{Stop}
 use Rattle.felica_log.specs.declared.Stop.the-variants.{AtEnd, AtLimit, AtCut, NoRoom, TotalsFull}
 use Rattle.felica_log.specs.Listing.{cutBy, frameThen, front, maxRecords, recordsLeft, listingFrom, listing}
-use Rattle.felica_log.specs.Step.{Reached, lacksRoom, lineRoom, maxBlocks, roomForLine, step, endText}
+use Rattle.felica_log.specs.Step.{Reached, lacksRoom, lineRoom, roomIn, maxBlocks, roomForLine, step, endText}
 
 -- the bytes that a step has put behind those that the buffer held
 abbrev pub lines : Buffer → Reached → List ℕ
@@ -38,17 +39,18 @@ StepInside = (b : Buffer) (t : Totals) (piece : List ℕ)
 abbrev pub WholeAhead : Totals → List ℕ → Type 0
 WholeAhead t s = (t .records < maxRecords) × ((frame : List ℕ) × (rest : List ℕ) × (front s ≡ frameThen frame rest))
 
--- What holds in front of the rest of the piece where a step stops. Before a whole record that may be read it stops only where room is lacking.
-abbrev pub Stopped : Stop → Buffer → Totals → List ℕ → Type 0
-Stopped AtEnd b t rest = rest ≡ []
-Stopped AtLimit b t rest = (maxRecords ≤ t .records) × (rest ≡ [] → ⊥)
-Stopped AtCut b t rest = (t .records < maxRecords) × ((missing : ℕ) × (front rest ≡ cutBy missing))
-Stopped NoRoom b t rest = WholeAhead t rest × (roomForLine b ≡ false)
-Stopped TotalsFull b t rest = WholeAhead t rest × (roomForLine b ≡ true) × (hasRoom t maxBlocks ≡ false)
+-- What holds in front of the rest of the piece where a step stops and the buffer has some room left. Before a whole record that may be read it stops only where room
+-- is lacking.
+abbrev pub Stopped : Stop → ℕ → Totals → List ℕ → Type 0
+Stopped AtEnd space t rest = rest ≡ []
+Stopped AtLimit space t rest = (maxRecords ≤ t .records) × (rest ≡ [] → ⊥)
+Stopped AtCut space t rest = (t .records < maxRecords) × ((missing : ℕ) × (front rest ≡ cutBy missing))
+Stopped NoRoom space t rest = WholeAhead t rest × (leb lineRoom space ≡ false)
+Stopped TotalsFull space t rest = WholeAhead t rest × (leb lineRoom space ≡ true) × (hasRoom t maxBlocks ≡ false)
 
 abbrev pub StopsExactly : Type 0
 StopsExactly = (b : Buffer) (t : Totals) (piece : List ℕ)
-    → Stopped (step b t piece .stop) (step b t piece .out) (step b t piece .totals) (drop (step b t piece .used) piece)
+    → Stopped (step b t piece .stop) (roomIn (step b t piece .out)) (step b t piece .totals) (drop (step b t piece .used) piece)
 
 -- Totals as records make them, which have room for one more.
 pub record Sound (t : Totals) : Type 0 where
@@ -68,6 +70,9 @@ SoundRoom = (t : Totals) → Sound t → hasRoom t maxBlocks ≡ true
 -- no whole record that may still be read stands at the front
 abbrev pub NoneLeft : Totals → List ℕ → Type 0
 NoneLeft t s = (frame rest : List ℕ) → front s ≡ frameThen frame rest → maxRecords ≤ t .records
+
+abbrev pub NothingLeftOver : Type 0
+NothingLeftOver = (t : Totals) (s : List ℕ) → length s ≡ 0 → NoneLeft t s
 
 -- Where a step does not stop for want of room, none is left; where it does, and had room for a line, it has listed something.
 abbrev pub NoneLeftBehind : Type 0

@@ -36,8 +36,11 @@ lacksRoom TotalsFull = false
 abbrev pub lineRoom : ℕ
 lineRoom = 128
 
+abbrev pub roomIn : Buffer → ℕ
+roomIn b = length (b .bytes) - b .next
+
 abbrev pub roomForLine : Buffer → Bool
-roomForLine b = leb lineRoom (length (b .bytes) - b .next)
+roomForLine b = leb lineRoom (roomIn b)
 
 -- the blocks that totals need room for: no block count is greater
 abbrev pub maxBlocks : ℕ

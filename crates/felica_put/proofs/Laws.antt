@@ -4,12 +4,12 @@
 use mathlib.Core.Path.{_≡_, refl, sym, ap, _∙_}
 use mathlib.Core.Bool.{Bool, true, false}
 use mathlib.Core.List.{List, [], _∷_, _++_}
-use Prim.Native.Nat.{ℕ, suc, _+_, _≤_, _<_}
+use Prim.Native.Nat.{ℕ, suc, _+_, _-_, _≤_, _<_}
 use native.Mathlib.Nat.{zero-add}
 use native.Mathlib.Numerals.{add-one}
 use native.Mathlib.Omega.{arith}
-use lib.ListN.{length, getD, set, take, drop, length-set, length-append, drop-of-length-le}
-use lib.Seq.{sets, sets-eq, drop-cons, drop-set-lt, length-take-le, take-append-seam}
+use lib.ListN.{length, getD, set, take, drop, length-set, length-append, length-drop, drop-of-length-le}
+use lib.Seq.{sets, sets-eq, drop-cons, drop-set-lt, length-take-le, take-all, take-append-seam}
 use lib.Dec.{ltb}
 use borrow.Author.Tests.{lt-ltb, ltb-true}
 use Rattle.felica_put.specs.Put.{Buffer, buffer, putByte, put}
@@ -38,6 +38,10 @@ put-none b vs n e = sym (ap (put b) n) ∙ e
 -- one more entry of a list
 pub drop-next {ℓ} : {A : Type ℓ} (l : List A) (i : ℕ) (d : A) → i < length l → drop i l ≡ getD l i d ∷ drop (i + 1) l
 drop-next l i d h = drop-cons l i d h ∙ ap (λ (k : ℕ). getD l i d ∷ drop k l) (sym (add-one i))
+
+-- a list from a place on, as a slice is cut
+pub take-rest : (n : ℕ) (s : List ℕ) → take (length s - n) (drop n s) ≡ drop n s
+take-rest n s = take-all (length s - n) (drop n s) (omega (arith, length-drop n s))
 
 -- A turn of a loop that puts f of a list, entry by entry: g is what an entry puts.
 module _ {ℓ} {A : Type ℓ} (f : List A → List ℕ) (g : A → List ℕ) (cons : (x : A) (xs : List A) → f (x ∷ xs) ≡ g x ++ f xs) where

@@ -17,7 +17,7 @@ use Rattle.felica_totals.specs.Count.{noTotals}
 use Rattle.felica_stream.specs.Held.{moved, stillWaiting}
 use Rattle.felica_stream.proofs.Held.{room-made}
 use Rattle.felica_log.specs.declared.Stop.{Stop}
-use Rattle.felica_log.specs.Listing.{nothing, frameThen, front, maxRecords, recordsLeft, listingFrom, listing}
+use Rattle.felica_log.specs.Listing.{front, maxRecords, recordsLeft, listingFrom, listing}
 use Rattle.felica_log.specs.Step.{Reached, reached, lacksRoom, roomForLine, step}
 use Rattle.felica_log.specs.Rules.{lines, Sound, NoneLeft}
 use Rattle.felica_log.proofs.Front.{front-whole}
@@ -80,15 +80,6 @@ listed-room t a held u used out next room {w} e l = subst (λ (n : ℕ). ListedU
 
 pub listed-start : (t : Totals) (a : Buffer) (held : List ℕ) → ListedUpTo t a held t a 0
 listed-start t a held = record { lines = []; written = []; lists = λ behind. refl; waits = append-nil (take (a .next) (a .bytes)) }
-
--- nothing is left at all
-none-whole : {frame rest : List ℕ} → nothing ≡ frameThen frame rest → ⊥
-none-whole e = let z : _≡_ {A = ℕ} 0 1 = cc in omega arith
-
-pub none-of : (t : Totals) (s : List ℕ) → length s ≡ 0 → NoneLeft t s
-unfolding front
-none-of t [] h frame rest e = absurd (none-whole e)
-none-of t (x ∷ s) h frame rest e = absurd (omega arith)
 
 -- the rest of the bytes held, moved to the front
 drop-take : (m n : ℕ) (s : List ℕ) → drop m (take n s) ≡ take (n - m) (drop m s)

@@ -8,9 +8,9 @@ use mathlib.Core.Bool.{true≢false}
 use lib.ListN.{length, take}
 use Rattle.felica_put.specs.Put.{buffer}
 use Rattle.felica_log.specs.Rules.{Sound, NoneLeft}
-use Rattle.felica_log.proofs.Rules.{sound-start}
+use Rattle.felica_log.proofs.Rules.{sound-start, nothing-left-over}
 use Rattle.list_log.specs.Held.{ReadAndListed}
-use Rattle.list_log.proofs.Held.{none-of, none-kept, not-over, held-short, read-none, read-turn}
+use Rattle.list_log.proofs.Held.{none-kept, not-over, held-short, read-none, read-turn}
 use Rattle.list_log.proofs.feed.Statement.{statement}
 use Rattle.list_log.proofs.feed.Tie as tie
 
@@ -25,7 +25,7 @@ new-requires : tie.Need-new-requires Inv-loop μ-loop
 new-requires c κs = search needs
 
 loop-holds : tie.Need-loop-holds Inv-loop μ-loop
-loop-holds c = (omega arith, omega arith, refl, refl, subst Sound (sym (c .new .ensures)) sound-start, none-of (c .new .result) _ refl, read-none (c .new .result) _ (c .new .ensures), omega arith)
+loop-holds c = (omega arith, omega arith, refl, refl, subst Sound (sym (c .new .ensures)) sound-start, nothing-left-over (c .new .result) _ refl, read-none (c .new .result) _ (c .new .ensures), omega arith)
 
 read-piece-requires : tie.Need-read-piece-requires Inv-loop μ-loop
 read-piece-requires c κs = let loop = c .before .before .loop in omega (arith, loop .inv .7, loop .inv .2, c .before .before .before .before .before .before .pre .0)

@@ -9,11 +9,12 @@ use mathlib.Core.Bool.{true≢false}
 use lib.ListN.{length, drop, length-drop}
 use lib.Seq.{drop-drop}
 use Rattle.felica_put.specs.Put.{buffer}
+use Rattle.felica_put.proofs.Laws.{take-rest}
 use Rattle.felica_stream.proofs.Held.{waits-inside, room-made}
 use Rattle.felica_log.specs.Rules.{Sound, NoneLeft}
-use Rattle.felica_log.proofs.Turn.{rest-is}
+use Rattle.felica_log.proofs.Rules.{nothing-left-over}
 use Rattle.list_log.specs.Held.{ListedUpTo}
-use Rattle.list_log.proofs.Held.{used-inside, next-inside, sound-after, none-after, some-used, listed-step, listed-room, listed-start, none-of}
+use Rattle.list_log.proofs.Held.{used-inside, next-inside, sound-after, none-after, some-used, listed-step, listed-room, listed-start}
 use Rattle.list_log.proofs.list_held.Statement.{statement}
 use Rattle.list_log.proofs.list_held.Tie as tie
 
@@ -59,7 +60,7 @@ add-used c =
     let held = c .before .before .before .before .before .before .before .before .before .before .before .before .before .args .held .now in
     let b = buffer (loop .out) (c .before .before .before .before .before .before .before .make-room .result .waiting) in
     let e = c .before .before .before .list-records .ensures in
-    let rest = rest-is held (loop .used) (c .before .before .before .before .before .before .before .before .before .loop-test .taken) in
+    let rest = take-rest (loop .used) held in
     let inside : loop .used + c .before .before .before .list-records .result .used ≤ length held =
     omega (arith, used-inside b (loop .after) _ e, ap length rest ∙ length-drop (loop .used) held, c .before .before .before .before .before .before .before .before .before .loop-test .taken) in
     record { fits = omega (arith, inside, c .before .before .before .before .before .before .before .before .before .before .before .before .before .good .0) }
@@ -79,7 +80,7 @@ returns-2 c =
     let held = c .before .before .before .before .before .before .before .before .before .before .before .before .before .before .before .before .before .args .held .now in
     let b = buffer (loop .out) (c .before .before .before .before .before .before .before .before .before .before .before .make-room .result .waiting) in
     let e = c .before .before .before .before .before .before .before .list-records .ensures in
-    let rest = rest-is held (loop .used) (c .before .before .before .before .before .before .before .before .before .before .before .before .before .loop-test .taken) in
+    let rest = take-rest (loop .used) held in
     let inside : loop .used + c .before .before .before .before .before .before .before .list-records .result .used ≤ length held =
     omega (arith, used-inside b (loop .after) _ e, ap length rest ∙ length-drop (loop .used) held, c .before .before .before .before .before .before .before .before .before .before .before .before .before .loop-test .taken) in
     let other = sym (c .before .before .lacks-room .ensures) ∙ not-true _ (c .before .if2 .taken) in
@@ -101,7 +102,7 @@ loop-less c =
     let held = c .before .before .before .before .before .before .before .before .before .before .before .before .before .before .before .before .args .held .now in
     let b = buffer (loop .out) (c .before .before .before .before .before .before .before .before .before .before .make-room .result .waiting) in
     let e = c .before .before .before .before .before .before .list-records .ensures in
-    let rest = rest-is held (loop .used) (c .before .before .before .before .before .before .before .before .before .before .before .before .loop-test .taken) in
+    let rest = take-rest (loop .used) held in
     let inside : loop .used + c .before .before .before .before .before .before .list-records .result .used ≤ length held =
     omega (arith, used-inside b (loop .after) _ e, ap length rest ∙ length-drop (loop .used) held, c .before .before .before .before .before .before .before .before .before .before .before .before .loop-test .taken) in
     let lacks = sym (c .before .lacks-room .ensures) ∙ not-false _ (c .if2 .left) in
@@ -114,7 +115,7 @@ loop-again c =
     let held = c .before .before .before .before .before .before .before .before .before .before .before .before .before .before .before .before .args .held .now in
     let b = buffer (loop .out) (c .before .before .before .before .before .before .before .before .before .before .make-room .result .waiting) in
     let e = c .before .before .before .before .before .before .list-records .ensures in
-    let rest = rest-is held (loop .used) (c .before .before .before .before .before .before .before .before .before .before .before .before .loop-test .taken) in
+    let rest = take-rest (loop .used) held in
     let inside : loop .used + c .before .before .before .before .before .before .list-records .result .used ≤ length held =
     omega (arith, used-inside b (loop .after) _ e, ap length rest ∙ length-drop (loop .used) held, c .before .before .before .before .before .before .before .before .before .before .before .before .loop-test .taken) in (
       inside,
@@ -139,7 +140,7 @@ returns-3 c =
       loop .inv .0,
       loop .inv .1,
       loop .inv .3,
-      λ _. (loop .inv .4, none-of (loop .after) (drop (loop .used) held) (rw (length-drop (loop .used) held) (omega (arith, c .before .loop-test .left)))),
+      λ _. (loop .inv .4, nothing-left-over (loop .after) (drop (loop .used) held) (rw (length-drop (loop .used) held) (omega (arith, c .before .loop-test .left)))),
     )
 
 pub list-held-spec : {M : Type 1} → statement M

@@ -1,7 +1,8 @@
 -- `felica_calls::field::behind_field` meets its contract.
 -- Assumes nothing.
 use native.Mathlib.Omega.{arith}
-use Rattle.felica_calls.proofs.Reading.{take-rest, before-within}
+use Rattle.felica_put.proofs.Laws.{take-rest}
+use Rattle.felica_calls.proofs.Reading.{before-within}
 use borrow.Author.Needs.{needs}
 use Rattle.felica_calls.proofs.field.behind_field.Statement.{statement}
 use Rattle.felica_calls.proofs.field.behind_field.Tie as tie

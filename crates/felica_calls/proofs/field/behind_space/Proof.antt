@@ -1,6 +1,7 @@
 -- `felica_calls::field::behind_space` meets its contract.
 -- Assumes nothing.
-use Rattle.felica_calls.proofs.Reading.{take-rest, drop-none}
+use Rattle.felica_put.proofs.Laws.{take-rest}
+use Rattle.felica_calls.proofs.Reading.{drop-none}
 use borrow.Author.Needs.{needs}
 use Rattle.felica_calls.proofs.field.behind_space.Statement.{statement}
 use Rattle.felica_calls.proofs.field.behind_space.Tie as tie

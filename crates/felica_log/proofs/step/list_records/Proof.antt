@@ -6,9 +6,10 @@ use Prim.Native.Nat.{ℕ, _+_, _-_, _≤_}
 use mathlib.Core.Path.{_≡_, refl, sym, ap, _∙_}
 use lib.ListN.{length, take, drop, length-drop}
 use Rattle.felica_put.specs.Put.{buffer}
+use Rattle.felica_put.proofs.Laws.{take-rest}
 use Rattle.felica_log.specs.Listing.{recordsLeft}
 use Rattle.felica_log.specs.Step.{stepFrom, step}
-use Rattle.felica_log.proofs.Turn.{frame-ahead, frame-inside, rest-is, step-ended, turn-stopped, turn-listed}
+use Rattle.felica_log.proofs.Turn.{frame-ahead, frame-inside, step-ended, turn-stopped, turn-listed}
 use Rattle.felica_log.proofs.step.list_records.Statement.{statement}
 use Rattle.felica_log.proofs.step.list_records.Tie as tie
 
@@ -80,7 +81,7 @@ loop-again c =
     let line = c .before .before .before .put-frame-line in (
       frame-inside piece _ _ _ started ahead,
       line .kept .0 ∙ loop .inv .1,
-      turn-listed piece (buffer (loop .out) (loop .next)) (loop .after) (loop .used) _ _ _ _ (rest-is piece (loop .used) started)
+      turn-listed piece (buffer (loop .out) (loop .next)) (loop .after) (loop .used) _ _ _ _ (take-rest (loop .used) piece)
           (ap (λ (n : ℕ). take n (drop 1 rest)) shown) (c .before .before .before .before .before .before .before .before .before .before .before .room-behind .ensures) ahead (line .ensures .0) (line .ensures .1) (line .ensures .2) (c .after-record .ensures) (loop .inv .2),
     )
 
@@ -94,7 +95,7 @@ returns : tie.Need-returns Inv-loop μ-loop
 returns c =
     let loop = c .before .before .before .before .before .before .before .loop in
     let piece = c .before .before .before .before .before .before .before .before .before .before .args .piece .now in
-    turn-stopped piece (buffer (loop .out) (loop .next)) (loop .after) (loop .used) _ _ (rest-is piece (loop .used) (c .before .before .before .before .before .before .loop-test .taken)) (c .before .before .before .before .room-behind .ensures)
+    turn-stopped piece (buffer (loop .out) (loop .next)) (loop .after) (loop .used) _ _ (take-rest (loop .used) piece) (c .before .before .before .before .room-behind .ensures)
     (sym (c .before .before .before .look-ahead .ensures) ∙ c .before .ahead2 .given .1) (loop .inv .2)
 
 same-length-2 : tie.Need-same-length-2 Inv-loop μ-loop

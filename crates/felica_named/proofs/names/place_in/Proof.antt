@@ -4,7 +4,7 @@ use native.Mathlib.Omega.{arith}
 use Prim.Native.Nat.{_+_, _-_, _≤_}
 use mathlib.Core.Path.{_≡_, sym, ap, _∙_}
 use lib.ListN.{length, drop, drop-of-length-le}
-use Rattle.felica_calls.proofs.Reading.{take-rest}
+use Rattle.felica_put.proofs.Laws.{take-rest}
 use Rattle.felica_named.specs.Names.{beginsWith, placeIn}
 use Rattle.felica_named.proofs.Placed.{place-here, place-later}
 use borrow.Author.Needs.{needs}

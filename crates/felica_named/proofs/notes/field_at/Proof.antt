@@ -5,7 +5,8 @@ use Prim.Native.Nat.{_+_, _-_}
 use mathlib.Core.Path.{_≡_, ap, _∙_}
 use lib.ListN.{length, take, drop, length-drop}
 use Rattle.felica_text.specs.Text.{before}
-use Rattle.felica_calls.proofs.Reading.{take-rest, before-within}
+use Rattle.felica_put.proofs.Laws.{take-rest}
+use Rattle.felica_calls.proofs.Reading.{before-within}
 use borrow.Author.Needs.{needs}
 use Rattle.felica_named.proofs.notes.field_at.Statement.{statement}
 use Rattle.felica_named.proofs.notes.field_at.Tie as tie

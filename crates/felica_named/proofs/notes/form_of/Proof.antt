@@ -3,7 +3,7 @@
 use native.Mathlib.Omega.{arith}
 use mathlib.Core.Path.{sym, ap}
 use lib.ListN.{getD, drop, length-drop, drop-of-length-le, List·getD-eq-default}
-use Rattle.felica_calls.proofs.Reading.{take-rest}
+use Rattle.felica_put.proofs.Laws.{take-rest}
 use borrow.Author.Needs.{needs}
 use Rattle.felica_named.proofs.notes.form_of.Statement.{statement}
 use Rattle.felica_named.proofs.notes.form_of.Tie as tie

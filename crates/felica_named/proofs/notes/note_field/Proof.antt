@@ -6,7 +6,7 @@ use mathlib.Core.Path.{sym, _∙_}
 use lib.ListN.{take}
 use lib.Seq.{length-take-le}
 use borrow.Author.Tests.{le-leb}
-use Rattle.felica_calls.proofs.Reading.{take-rest}
+use Rattle.felica_put.proofs.Laws.{take-rest}
 use Rattle.felica_named.specs.Notes.{note}
 use Rattle.felica_named.proofs.Placed.{place-within}
 use Rattle.felica_named.proofs.Noting.{note-named}

@@ -6,7 +6,7 @@ use lib.ListN.{drop-of-length-le}
 use borrow.Author.Tests.{eq-eqb, ne-eqb}
 use Rattle.felica_text.specs.Text.{before}
 use Rattle.felica_calls.specs.Field.{fieldOf}
-use Rattle.felica_calls.proofs.Reading.{take-rest}
+use Rattle.felica_put.proofs.Laws.{take-rest}
 use borrow.Author.Needs.{needs}
 use Rattle.felica_named.proofs.values.value_at.Statement.{statement}
 use Rattle.felica_named.proofs.values.value_at.Tie as tie
