@@ -42,36 +42,52 @@ pub fn parse_payload(payload: &[u8]) -> Parsed
         return Parsed::refused_without_code(error::EMPTY_PAYLOAD);
     }
     let command_code = payload[0];
+    // Each arm returns, so that no result is gathered before it goes to the caller.
     match command_code {
-        constants::POLLING_COMMAND_CODE => parse_polling(payload),
+        constants::POLLING_COMMAND_CODE => return parse_polling(payload),
         constants::REQUEST_SERVICE_COMMAND_CODE
         | constants::REQUEST_BLOCK_INFORMATION_COMMAND_CODE
         | constants::REQUEST_BLOCK_INFORMATION_EX_COMMAND_CODE
-        | constants::REQUEST_SERVICE_V2_COMMAND_CODE => parse_code_list(payload, command_code),
-        constants::REQUEST_RESPONSE_COMMAND_CODE
-        | constants::REQUEST_SYSTEM_CODE_COMMAND_CODE
-        | constants::REQUEST_PRODUCT_INFORMATION_COMMAND_CODE => parse_idm_alone(
+        | constants::REQUEST_SERVICE_V2_COMMAND_CODE => return parse_code_list(
             payload,
             command_code,
         ),
-        constants::READ_WITHOUT_ENCRYPTION_COMMAND_CODE => parse_read_without_encryption(payload),
-        constants::WRITE_WITHOUT_ENCRYPTION_COMMAND_CODE => parse_write_without_encryption(payload),
+        constants::REQUEST_RESPONSE_COMMAND_CODE
+        | constants::REQUEST_SYSTEM_CODE_COMMAND_CODE
+        | constants::REQUEST_PRODUCT_INFORMATION_COMMAND_CODE => return parse_idm_alone(
+            payload,
+            command_code,
+        ),
+        constants::READ_WITHOUT_ENCRYPTION_COMMAND_CODE => return parse_read_without_encryption(
+            payload,
+        ),
+        constants::WRITE_WITHOUT_ENCRYPTION_COMMAND_CODE => return parse_write_without_encryption(
+            payload,
+        ),
         constants::SEARCH_SERVICE_CODE_COMMAND_CODE
-        | constants::GET_AREA_INFORMATION_COMMAND_CODE => parse_idm_and_word(payload, command_code),
-        constants::AUTHENTICATION1_COMMAND_CODE => parse_authentication1(payload),
-        constants::AUTHENTICATION2_COMMAND_CODE => parse_authentication2(payload),
-        constants::REQUEST_CODE_LIST_COMMAND_CODE => parse_request_code_list(payload),
-        constants::SET_PARAMETER_COMMAND_CODE => parse_set_parameter(payload),
+        | constants::GET_AREA_INFORMATION_COMMAND_CODE => return parse_idm_and_word(
+            payload,
+            command_code,
+        ),
+        constants::AUTHENTICATION1_COMMAND_CODE => return parse_authentication1(payload),
+        constants::AUTHENTICATION2_COMMAND_CODE => return parse_authentication2(payload),
+        constants::REQUEST_CODE_LIST_COMMAND_CODE => return parse_request_code_list(payload),
+        constants::SET_PARAMETER_COMMAND_CODE => return parse_set_parameter(payload),
         constants::GET_CONTAINER_ISSUE_INFORMATION_COMMAND_CODE
         | constants::GET_SYSTEM_STATUS_COMMAND_CODE
         | constants::REQUEST_SPECIFICATION_VERSION_COMMAND_CODE
-        | constants::RESET_MODE_COMMAND_CODE => parse_idm_and_reserved(payload, command_code),
-        constants::GET_NODE_PROPERTY_COMMAND_CODE => parse_get_node_property(payload),
-        constants::GET_CONTAINER_PROPERTY_COMMAND_CODE => parse_get_container_property(payload),
-        constants::AUTHENTICATION1_V2_COMMAND_CODE => parse_authentication1_v2(payload),
-        constants::AUTHENTICATION2_V2_COMMAND_CODE => parse_authentication2_v2(payload),
-        constants::GET_CONTAINER_ID_COMMAND_CODE => parse_get_container_id(payload),
-        _ => refuse_code(command_code),
+        | constants::RESET_MODE_COMMAND_CODE => return parse_idm_and_reserved(
+            payload,
+            command_code,
+        ),
+        constants::GET_NODE_PROPERTY_COMMAND_CODE => return parse_get_node_property(payload),
+        constants::GET_CONTAINER_PROPERTY_COMMAND_CODE => return parse_get_container_property(
+            payload,
+        ),
+        constants::AUTHENTICATION1_V2_COMMAND_CODE => return parse_authentication1_v2(payload),
+        constants::AUTHENTICATION2_V2_COMMAND_CODE => return parse_authentication2_v2(payload),
+        constants::GET_CONTAINER_ID_COMMAND_CODE => return parse_get_container_id(payload),
+        _ => return refuse_code(command_code),
     }
 }
 

@@ -36,22 +36,23 @@ const GET_NODE_PROPERTY_ROW: usize = 15;
 
 const AUTHENTICATION1_V2_ROW: usize = 22;
 
+// Here and in `parse_get_container_id` a `match` takes the place of `let … else`, with which the compiler chooses at run time where to store each field.
 pub(crate) fn parse_polling(payload: &[u8]) -> Parsed
     ensures { λ r. ⌜ BodyRead (now (payload .entry)) 1 0x00 r ⌝ }
 {
     let start = Cursor { at: 1 };
     let taken = start.take_polling(payload);
-    let PollingTaken::Parameters(system_code, request_code, time_slots, _) = taken else {
-        return Parsed::refused(taken.ground(), constants::POLLING_COMMAND_CODE);
-    };
-    Parsed {
-        answer: Answer::Command(FelicaStandardCommand::Polling {
-            system_code: system_code,
-            request_code: request_code,
-            time_slots: time_slots,
-        }),
-        idm: [0u8; 8],
-        challenge: [0u8; 16],
+    match taken {
+        PollingTaken::Parameters(system_code, request_code, time_slots, _) => Parsed {
+            answer: Answer::Command(FelicaStandardCommand::Polling {
+                system_code: system_code,
+                request_code: request_code,
+                time_slots: time_slots,
+            }),
+            idm: [0u8; 8],
+            challenge: [0u8; 16],
+        },
+        PollingTaken::Refused(ground) => Parsed::refused(ground, constants::POLLING_COMMAND_CODE),
     }
 }
 
@@ -445,12 +446,12 @@ pub(crate) fn parse_get_container_id(payload: &[u8]) -> Parsed
 {
     let start = Cursor { at: 1 };
     let end = start.take_reserved(payload);
-    let Moved::On(_) = end else {
-        return Parsed::refused(end.ground(), constants::GET_CONTAINER_ID_COMMAND_CODE);
-    };
-    Parsed {
-        answer: Answer::Command(FelicaStandardCommand::GetContainerId),
-        idm: [0u8; 8],
-        challenge: [0u8; 16],
+    match end {
+        Moved::On(_) => Parsed {
+            answer: Answer::Command(FelicaStandardCommand::GetContainerId),
+            idm: [0u8; 8],
+            challenge: [0u8; 16],
+        },
+        Moved::Refused(ground) => Parsed::refused(ground, constants::GET_CONTAINER_ID_COMMAND_CODE),
     }
 }

@@ -164,36 +164,36 @@ parse-payload-spec =
     returns
     shared-slice-read-command-code
     parse-polling-requires
-    parse-code-list-requires
-    parse-idm-alone-requires
-    parse-read-without-encryption-requires
-    parse-write-without-encryption-requires
-    parse-idm-and-word-requires
-    parse-authentication1-requires
-    parse-authentication2-requires
-    parse-request-code-list-requires
-    parse-set-parameter-requires
-    parse-idm-and-reserved-requires
-    parse-get-node-property-requires
-    parse-get-container-property-requires
-    parse-authentication1-v2-requires
-    parse-authentication2-v2-requires
-    parse-get-container-id-requires
-    refuse-code-requires
     returns-2
+    parse-code-list-requires
     returns-3
+    parse-idm-alone-requires
     returns-4
+    parse-read-without-encryption-requires
     returns-5
+    parse-write-without-encryption-requires
     returns-6
+    parse-idm-and-word-requires
     returns-7
+    parse-authentication1-requires
     returns-8
+    parse-authentication2-requires
     returns-9
+    parse-request-code-list-requires
     returns-10
+    parse-set-parameter-requires
     returns-11
+    parse-idm-and-reserved-requires
     returns-12
+    parse-get-node-property-requires
     returns-13
+    parse-get-container-property-requires
     returns-14
+    parse-authentication1-v2-requires
     returns-15
+    parse-authentication2-v2-requires
     returns-16
+    parse-get-container-id-requires
     returns-17
+    refuse-code-requires
     returns-18)
