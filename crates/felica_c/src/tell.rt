@@ -1,0 +1,50 @@
+// A result of the parser, told to a caller that knows bytes and numbers only.
+ghost use mathlib.Core.Path.{_≡_};
+ghost use Rattle.felica_c.specs.Boundary.{lent, told, answer};
+ghost use Rattle.felica_c.specs.Fields.{refusal, refusalCode, tell as telling};
+use crate::answer::FelicaAnswer;
+use crate::fields::put_fields;
+use felica_command::command::Answer;
+use felica_command::command::Parsed;
+use felica_command::command::Refusal;
+
+pub(crate) fn tell(
+    parsed: Parsed,
+    idm: &mut [u8; 8],
+    challenge: &mut [u8; 16],
+    fields: &mut [u16; 5],
+    parts: &mut [usize; 10],
+) -> FelicaAnswer
+    ensures { λ r. ⌜ told r (lent (now (idm .exit)) (now (challenge .exit)) (now (fields .exit)) (now (parts .exit))) ≡ telling parsed (lent (now (idm .entry)) (now (challenge .entry)) (now (fields .entry)) (now (parts .entry))) ⌝ }
+{
+    let answer = parsed.answer;
+    match answer {
+        Answer::Command(command) => {
+            let code = put_fields(command, fields, parts);
+            let its_idm = parsed.idm;
+            let its_challenge = parsed.challenge;
+            *idm = its_idm;
+            *challenge = its_challenge;
+            FelicaAnswer {
+                refusal: 0,
+                code: code,
+            }
+        }
+        Answer::Refused(why) => refused(why),
+    }
+}
+
+fn refused(why: Refusal) -> FelicaAnswer
+    ensures { λ r. ⌜ r ≡ answer (refusal why) (refusalCode why) ⌝ }
+{
+    match why {
+        Refusal::Number(number) => FelicaAnswer {
+            refusal: number,
+            code: 0,
+        },
+        Refusal::OfCommand(number, code) => FelicaAnswer {
+            refusal: number,
+            code: code,
+        },
+    }
+}
