@@ -1,14 +1,16 @@
-// A result of the parser, told to a caller that knows bytes and numbers only.
+// A result, told to a caller that knows bytes and numbers only.
 ghost use mathlib.Core.Path.{_≡_};
 ghost use Rattle.felica_c.specs.Boundary.{lent, told, answer};
-ghost use Rattle.felica_c.specs.Fields.{refusal, refusalCode, tell as telling};
+ghost use Rattle.felica_c.specs.Fields.{refusal, refusalCode, tell as telling, unwrittenBy};
 use crate::answer::FelicaAnswer;
+use crate::answer::FelicaWritten;
 use crate::fields::put_fields;
 use felica_command::command::Answer;
 use felica_command::command::Parsed;
 use felica_command::command::Refusal;
 
-pub(crate) fn tell(
+// Where the result is a command, all of `idm`, `challenge`, `fields` and `parts` are written, zero where the command lacks them. A refusal changes no byte.
+pub fn tell(
     parsed: Parsed,
     idm: &mut [u8; 8],
     challenge: &mut [u8; 16],
@@ -45,6 +47,22 @@ fn refused(why: Refusal) -> FelicaAnswer
         Refusal::OfCommand(number, code) => FelicaAnswer {
             refusal: number,
             code: code,
+        },
+    }
+}
+
+// A refusal of the writer.
+pub fn unwritten(why: Refusal) -> FelicaWritten
+    ensures { λ r. ⌜ r ≡ unwrittenBy why ⌝ }
+{
+    match why {
+        Refusal::Number(number) => FelicaWritten {
+            refusal: number,
+            length: 0,
+        },
+        Refusal::OfCommand(number, _) => FelicaWritten {
+            refusal: number,
+            length: 0,
         },
     }
 }

@@ -5,10 +5,10 @@ use denote.Ref.{now}
 use lib.ListN.{drop}
 use Rattle.felica_format.specs.Read.{readFrame}
 use Rattle.felica_lists.specs.Lists.{buffers, listed}
 use Rattle.felica_c.specs.Boundary.{lent}
 use Rattle.felica_c.proofs.Laws.{list-tells}
-use Rattle.felica_c.proofs.felica_list_frame.Statement.{statement}
-use Rattle.felica_c.proofs.felica_list_frame.Tie as tie
+use Rattle.felica_c_list_frame.proofs.felica_list_frame.Statement.{statement}
+use Rattle.felica_c_list_frame.proofs.felica_list_frame.Tie as tie
 
 returns : tie.Need-returns
 returns c =

@@ -4,10 +4,10 @@ use mathlib.Core.Path.{_∙_}
 use denote.Ref.{now}
 use lib.ListN.{drop}
 use Rattle.felica_format.specs.Read.{readFrame}
 use Rattle.felica_c.specs.Boundary.{lent}
 use Rattle.felica_c.proofs.Laws.{result-tells}
-use Rattle.felica_c.proofs.felica_parse_frame.Statement.{statement}
-use Rattle.felica_c.proofs.felica_parse_frame.Tie as tie
+use Rattle.felica_c_parse_frame.proofs.felica_parse_frame.Statement.{statement}
+use Rattle.felica_c_parse_frame.proofs.felica_parse_frame.Tie as tie
 
 returns : tie.Need-returns
 returns c =

@@ -4,10 +4,10 @@ use borrow.Author.Needs.{needs}
 use denote.Ref.{now}
 use Rattle.felica_format.specs.Read.{readSecure}
 use Rattle.felica_lists.specs.Lists.{buffers, listed}
 use Rattle.felica_c.specs.Boundary.{lent}
 use Rattle.felica_c.proofs.Laws.{list-tells}
-use Rattle.felica_c.proofs.felica_list_secure_payload.Statement.{statement}
-use Rattle.felica_c.proofs.felica_list_secure_payload.Tie as tie
+use Rattle.felica_c_list_secure_payload.proofs.felica_list_secure_payload.Statement.{statement}
+use Rattle.felica_c_list_secure_payload.proofs.felica_list_secure_payload.Tie as tie
 
 returns : tie.Need-returns
 returns c =

@@ -2,8 +2,8 @@
 -- Assumes nothing.
 use borrow.Author.Needs.{needs}
 use mathlib.Core.Path.{refl}
-use Rattle.felica_c.proofs.unwritten.Statement.{statement}
-use Rattle.felica_c.proofs.unwritten.Tie as tie
+use Rattle.felica_c.proofs.tell.unwritten.Statement.{statement}
+use Rattle.felica_c.proofs.tell.unwritten.Tie as tie
 
 returns : tie.Need-returns
 returns c = rw (c .before .why .given .1) refl

@@ -1,9 +1,9 @@
 -- `felica_write` meets its contract: what is told is told of what the writer gave.
 -- Assumes nothing.
 use borrow.Author.Needs.{needs}
 use Rattle.felica_c.proofs.Laws.{length-tells, refusal-tells}
-use Rattle.felica_c.proofs.felica_write.Statement.{statement}
-use Rattle.felica_c.proofs.felica_write.Tie as tie
+use Rattle.felica_c_write.proofs.felica_write.Statement.{statement}
+use Rattle.felica_c_write.proofs.felica_write.Tie as tie
 
 returns : tie.Need-returns
 returns c = length-tells _ _ _ _ (c .before .before .before .before .before .write .ensures) (c .before .result .given .1)

@@ -3,10 +3,10 @@
 use mathlib.Core.Path.{_∙_}
 use denote.Ref.{now}
 use Rattle.felica_format.specs.Read.{readPayload}
 use Rattle.felica_c.specs.Boundary.{lent}
 use Rattle.felica_c.proofs.Laws.{result-tells}
-use Rattle.felica_c.proofs.felica_parse_payload.Statement.{statement}
-use Rattle.felica_c.proofs.felica_parse_payload.Tie as tie
+use Rattle.felica_c_parse_payload.proofs.felica_parse_payload.Statement.{statement}
+use Rattle.felica_c_parse_payload.proofs.felica_parse_payload.Tie as tie
 
 returns : tie.Need-returns
 returns c =
