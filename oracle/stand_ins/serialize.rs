@@ -1,0 +1,1 @@
+// Empty: the parser writes nothing.
