@@ -11,7 +11,7 @@ use native.Mathlib.Omega.{arith}
 use lib.ListN.{length, getD, set, take, drop, length-set, length-append, length-drop, drop-of-length-le}
 use lib.Seq.{sets, sets-eq, drop-cons, drop-set-lt, length-take-le, take-all, take-append-seam}
 use lib.Dec.{ltb}
-use borrow.Author.Tests.{lt-ltb, ltb-true}
+use borrow.Author.Tests.{lt-ltb, le-ltb, ltb-true}
 use Rattle.felica_put.specs.Put.{Buffer, buffer, putByte, put}
 
 pub put-append : (b : Buffer) (vs ws : List ℕ) → put b (vs ++ ws) ≡ put (put b vs) ws
@@ -56,6 +56,32 @@ module _ {ℓ} {A : Type ℓ} (f : List A → List ℕ) (g : A → List ℕ) (co
 pub put-done {ℓ} : {A : Type ℓ} (f : List A → List ℕ) (b : Buffer) (s : List A) (i : ℕ) {all : Buffer} → f [] ≡ [] → length s ≤ i → put b (f (drop i s)) ≡ all
     → b ≡ all
 put-done f b s i n h e = put-none b (f (drop i s)) (ap f (drop-of-length-le s h) ∙ n) e
+
+-- one byte where there is room, and bytes where there is none
+pub put-one : (l : List ℕ) (at i v : ℕ) → at + i < length l → buffer (set l (at + i) v) (at + (i + 1)) ≡ put (buffer l (at + i)) (v ∷ [])
+unfolding put
+put-one l at i v room = let n : at + (i + 1) ≡ at + i + 1 = omega arith in rw (lt-ltb _ _ room, n) refl
+
+put-full : (vs l : List ℕ) (at : ℕ) → length l ≤ at → put (buffer l at) vs ≡ buffer l at
+unfolding put
+put-full [] l at full = refl
+put-full (v ∷ vs) l at full = rw (le-ltb _ _ full) (put-full vs l at full)
+
+-- all is put where nothing is left of the list or of the room
+put-over : (rest l : List ℕ) (at : ℕ) {all : Buffer} → (0 < length rest → length l ≤ at) → put (buffer l at) rest ≡ all → buffer l at ≡ all
+unfolding put
+put-over [] l at full e = e
+put-over (v ∷ vs) l at full e = sym (put-full (v ∷ vs) l at (full (omega arith))) ∙ e
+
+-- a loop that puts a list from a place on: its start and its end
+pub put-start : (s l : List ℕ) (at : ℕ) → put (buffer l (at + 0)) (drop 0 s) ≡ put (buffer l at) s
+put-start s l at = let n : at + 0 ≡ at = omega arith in rw n refl
+
+pub put-last : (s l before : List ℕ) (at i count : ℕ) {all : Buffer} → i ≡ count → length l ≡ length before
+    → (count < length s → length before ≤ at + count) → put (buffer l (at + i)) (drop i s) ≡ all → buffer l (at + count) ≡ all
+put-last s l before at i count is same full e =
+    put-over (drop count s) l (at + count) (λ left. let more : count < length s = omega (arith, length-drop count s, left) in omega (arith, full more, same))
+    (ap (λ (k : ℕ). put (buffer l (at + k)) (drop k s)) (sym is) ∙ e)
 
 -- Where there is room, the text stands in the buffer, and what lies before and behind it keeps its value.
 put-sets : (vs l : List ℕ) (at : ℕ) → at + length vs ≤ length l → put (buffer l at) vs ≡ buffer (sets l at vs) (at + length vs)
