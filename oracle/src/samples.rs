@@ -26,11 +26,7 @@ pub fn sets() -> [Set; 3] {
     let mut random = Random::new(7);
     let mixed: Vec<u8> = MIX.iter().flat_map(|&(code, share)| vec![code; share]).collect();
     let every: Vec<u8> = LAYOUTS.iter().map(|row| row.code).collect();
-    [
-        set("mix", &mixed, &mut random),
-        set("even", &every, &mut random),
-        set("polling", &[0x00], &mut random),
-    ]
+    [set("mix", &mixed, &mut random), set("even", &every, &mut random), set("polling", &[0x00], &mut random)]
 }
 
 /// Each code equally often, in an order that does not repeat.

@@ -3,7 +3,8 @@ use crate::felica_rs::felica_standard::FelicaStandardCommand as C;
 use crate::samples::{Sample, Set, sets};
 use crate::values::Kind;
 use crate::writer;
-use felica::{Handed, ffi};
+use felica::Handed;
+use felica::ffi::{self, FelicaAnswer};
 use std::env;
 use std::fs::{self, File};
 use std::hint::black_box;
@@ -143,21 +144,64 @@ fn our_parse(sample: &Sample, lent: &mut Lent) {
 
 fn our_list(sample: &Sample, lent: &mut Lent, buffers: &mut Buffers) {
     let bytes = black_box(&sample.bytes[..]);
-    let (at, len) = (bytes.as_ptr(), bytes.len());
-    let Lent { idm, challenge, fields, parts } = lent;
-    let Buffers { first, second, numbers, places, modes } = buffers;
-    let (f, s) = (first.as_mut_ptr(), second.as_mut_ptr());
-    let (n, p, m) = (numbers.as_mut_ptr(), places.as_mut_ptr(), modes.as_mut_ptr());
-    // SAFETY: `bytes` is lent for reading, `lent` and `buffers` for writing, each with its own length.
-    let answer = unsafe {
-        match sample.kind {
-            Kind::Secure => ffi::felica_list_secure_payload(
-                sample.code, at, len, f, 32, s, 32, n, 255, p, 255, m, 255, idm, challenge, fields, parts,
-            ),
-            _ => ffi::felica_list_frame(at, len, f, 32, s, 32, n, 255, p, 255, m, 255, idm, challenge, fields, parts),
-        }
+    let answer = match sample.kind {
+        Kind::Secure => list_secure_payload(sample.code, bytes, lent, buffers),
+        _ => list_frame(bytes, lent, buffers),
     };
     black_box((&answer, lent, buffers));
+}
+
+fn list_frame(bytes: &[u8], lent: &mut Lent, buffers: &mut Buffers) -> FelicaAnswer {
+    let Lent { idm, challenge, fields, parts } = lent;
+    let Buffers { first, second, numbers, places, modes } = buffers;
+    // SAFETY: `bytes` is lent for reading, `lent` and `buffers` for writing.
+    unsafe {
+        ffi::felica_list_frame(
+            bytes.as_ptr(),
+            bytes.len(),
+            first.as_mut_ptr(),
+            first.len(),
+            second.as_mut_ptr(),
+            second.len(),
+            numbers.as_mut_ptr(),
+            numbers.len(),
+            places.as_mut_ptr(),
+            places.len(),
+            modes.as_mut_ptr(),
+            modes.len(),
+            idm,
+            challenge,
+            fields,
+            parts,
+        )
+    }
+}
+
+fn list_secure_payload(code: u8, bytes: &[u8], lent: &mut Lent, buffers: &mut Buffers) -> FelicaAnswer {
+    let Lent { idm, challenge, fields, parts } = lent;
+    let Buffers { first, second, numbers, places, modes } = buffers;
+    // SAFETY: `bytes` is lent for reading, `lent` and `buffers` for writing.
+    unsafe {
+        ffi::felica_list_secure_payload(
+            code,
+            bytes.as_ptr(),
+            bytes.len(),
+            first.as_mut_ptr(),
+            first.len(),
+            second.as_mut_ptr(),
+            second.len(),
+            numbers.as_mut_ptr(),
+            numbers.len(),
+            places.as_mut_ptr(),
+            places.len(),
+            modes.as_mut_ptr(),
+            modes.len(),
+            idm,
+            challenge,
+            fields,
+            parts,
+        )
+    }
 }
 
 fn rust_write(command: &Handed, out: &mut [u8]) {
@@ -179,7 +223,12 @@ fn measure_listings(list_log: &Path) -> bool {
         fs::write(&log, records(&set)).expect("a log");
         equal &= listed(list_log, &[], &log) == listed(&own, &["listing"], &log);
         let (ratio, time) = median(LISTINGS, || timed(&own, &["listing"], &log), || timed(list_log, &[], &log));
-        println!("{:8} {:15} {ratio:5.2} times the Rust's speed, {:.3} s a log", set.name, "listing", time.as_secs_f64());
+        println!(
+            "{:8} {:15} {ratio:5.2} times the Rust's speed, {:.3} s a log",
+            set.name,
+            "listing",
+            time.as_secs_f64()
+        );
     }
     fs::remove_file(&log).expect("the log is there");
     if !equal {
