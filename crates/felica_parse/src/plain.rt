@@ -1,5 +1,7 @@
 // The plain commands. A body begins behind the code byte, at 1.
 ghost use Rattle.felica_cursor.specs.Body.{BodyRead};
+ghost use mathlib.Core.Path.{_≡_};
+ghost use Rattle.felica_parse.specs.Bare.{withoutIdm};
 ghost use Rattle.felica_parse.specs.Codes.{CodeListCode, IdmAloneCode, WordCode, ReservedCode};
 use crate::kinds::code_list_kind;
 use crate::kinds::idm_alone_kind;
@@ -36,24 +38,30 @@ const GET_NODE_PROPERTY_ROW: usize = 15;
 
 const AUTHENTICATION1_V2_ROW: usize = 22;
 
-// Here and in `parse_get_container_id` a `match` takes the place of `let … else`, with which the compiler chooses at run time where to store each field.
+// The result of a command that has neither IDm nor challenge. Apart from its callers, or the compiler stores their fields through a choice of places.
+fn without_idm(kind: FelicaStandardCommand) -> Parsed
+    ensures { λ r. ⌜ r ≡ withoutIdm kind ⌝ }
+{
+    Parsed {
+        answer: Answer::Command(kind),
+        idm: [0u8; 8],
+        challenge: [0u8; 16],
+    }
+}
+
 pub(crate) fn parse_polling(payload: &[u8]) -> Parsed
     ensures { λ r. ⌜ BodyRead (now (payload .entry)) 1 0x00 r ⌝ }
 {
     let start = Cursor { at: 1 };
     let taken = start.take_polling(payload);
-    match taken {
-        PollingTaken::Parameters(system_code, request_code, time_slots, _) => Parsed {
-            answer: Answer::Command(FelicaStandardCommand::Polling {
-                system_code: system_code,
-                request_code: request_code,
-                time_slots: time_slots,
-            }),
-            idm: [0u8; 8],
-            challenge: [0u8; 16],
-        },
-        PollingTaken::Refused(ground) => Parsed::refused(ground, constants::POLLING_COMMAND_CODE),
-    }
+    let PollingTaken::Parameters(system_code, request_code, time_slots, _) = taken else {
+        return Parsed::refused(taken.ground(), constants::POLLING_COMMAND_CODE);
+    };
+    without_idm(FelicaStandardCommand::Polling {
+        system_code: system_code,
+        request_code: request_code,
+        time_slots: time_slots,
+    })
 }
 
 // parse_request_service, parse_request_block_information, parse_request_block_information_ex and parse_request_service_v2
@@ -377,11 +385,7 @@ pub(crate) fn parse_get_container_property(payload: &[u8]) -> Parsed
         );
     };
     let property = ContainerProperty::from_index(index);
-    Parsed {
-        answer: Answer::Command(FelicaStandardCommand::GetContainerProperty { property: property }),
-        idm: [0u8; 8],
-        challenge: [0u8; 16],
-    }
+    without_idm(FelicaStandardCommand::GetContainerProperty { property: property })
 }
 
 pub(crate) fn parse_authentication1_v2(payload: &[u8]) -> Parsed
@@ -446,12 +450,8 @@ pub(crate) fn parse_get_container_id(payload: &[u8]) -> Parsed
 {
     let start = Cursor { at: 1 };
     let end = start.take_reserved(payload);
-    match end {
-        Moved::On(_) => Parsed {
-            answer: Answer::Command(FelicaStandardCommand::GetContainerId),
-            idm: [0u8; 8],
-            challenge: [0u8; 16],
-        },
-        Moved::Refused(ground) => Parsed::refused(ground, constants::GET_CONTAINER_ID_COMMAND_CODE),
-    }
+    let Moved::On(_) = end else {
+        return Parsed::refused(end.ground(), constants::GET_CONTAINER_ID_COMMAND_CODE);
+    };
+    without_idm(FelicaStandardCommand::GetContainerId)
 }
