@@ -26,6 +26,15 @@ pub below-next : (bound : ℕ) (s : List ℕ) (i : ℕ) → i < length s → get
 unfolding _and_
 below-next bound s i h small = ap (allBelow bound) (drop-cons s i 0 h) ∙ rw (lt-ltb (getD s i 0) bound small, add-one)
 
+-- tests of the bytes so far, with one byte more
+pub zeros-stop : (clear : Bool) (s : List ℕ) (i : ℕ) → i < length s → (getD s i 0 ≡ 0 → ⊥) → (false and allBelow 1 (drop (i + 1) s)) ≡ (clear and allBelow 1 (drop i s))
+unfolding _and_
+zeros-stop true s i h other = sym (below-stop 1 s i h (omega arith))
+zeros-stop false s i h other = refl
+
+pub zeros-next : (clear : Bool) (s : List ℕ) (i : ℕ) → i < length s → getD s i 0 ≡ 0 → (clear and allBelow 1 (drop (i + 1) s)) ≡ (clear and allBelow 1 (drop i s))
+zeros-next clear s i h none = ap (λ (b : Bool). clear and b) (sym (below-next 1 s i h (omega arith)))
+
 -- every entry is below the bound
 pub all-small : (bound : ℕ) (s : List ℕ) → ((i : ℕ) → getD s i 0 < bound) → allBelow bound s ≡ true
 all-small bound [] h = refl
@@ -139,16 +148,14 @@ pub challenge-test : (challenge : List ℕ) (filled : ℕ) {r : Bool} → length
 challenge-test challenge filled long small e =
     e ∙ ap (λ (n : ℕ). sameList (drop filled challenge) (zeros (n - filled))) long ∙ pass _ _ (and-both (eq-eqb (length challenge) 16 long) small)
 
--- an IDm of zeros will do for every layout, another one where the layout has it
-pub idm-of-zeros : (present : Bool) (idm : List ℕ) → length idm ≡ 8 → Bytes idm → sameList idm (zeros (length idm - 0)) ≡ true → true ≡ idmOk present idm
+-- any IDm where the layout has one, else zeros
+pub any-idm : {present : Bool} (idm : List ℕ) → present ≡ true → length idm ≡ 8 → Bytes idm → true ≡ idmOk present idm
 unfolding idmOk
-idm-of-zeros true idm long small e = sym (and-both (eq-eqb (length idm) 8 long) small)
-idm-of-zeros false idm long small e = sym (rw long at e)
+any-idm idm e long small = rw e (sym (and-both (eq-eqb (length idm) 8 long) small))
 
-pub other-idm : (present : Bool) (idm : List ℕ) → length idm ≡ 8 → Bytes idm → sameList idm (zeros (length idm - 0)) ≡ false → present ≡ idmOk present idm
+pub no-idm : {present : Bool} (idm : List ℕ) → present ≡ false → length idm ≡ 8 → sameList idm (zeros (length idm - 0)) ≡ idmOk present idm
 unfolding idmOk
-other-idm true idm long small e = sym (and-both (eq-eqb (length idm) 8 long) small)
-other-idm false idm long small e = sym (rw long at e)
+no-idm idm e long = rw (e, long) refl
 
 -- a value of at most n
 pub at-most : (x n : ℕ) → x ≤ n → ltb x (suc n) ≡ true

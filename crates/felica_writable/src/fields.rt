@@ -2,11 +2,10 @@
 ghost use mathlib.Core.Path.{_≡_};
 ghost use Prim.Native.Nat.{suc, _-_};
 ghost use lib.ListN.{length, drop};
-ghost use Rattle.felica_format.specs.Basic.{_and_, Bytes, isOneOf, zeros};
+ghost use Rattle.felica_format.specs.Basic.{_and_, allBelow, Bytes, isOneOf, zeros};
 ghost use Rattle.felica_format.specs.Command.{endFields};
 ghost use Rattle.felica_format.specs.Writable.{sameList, areBytes, idmOk, selectorOk, ranges, rangesOf, endFieldsOk};
 ghost use Rattle.felica_layout.specs.Layout.{selectorMeant, endingMeant};
-use crate::lists::all_below;
 use felica_command::fixed::Fixed;
 use felica_format::constants::is_polling_time_slot;
 use felica_layout::Ending;
@@ -15,10 +14,10 @@ use felica_layout::Selector;
 pub(crate) fn idm_ok(present: bool, idm: [u8; 8]) -> bool
     ensures { λ r. ⌜ r ≡ idmOk present idm ⌝ }
 {
-    if zeros_from(&idm, 0) {
+    if present {
         return true;
     }
-    present
+    zeros_from(&idm, 0)
 }
 
 pub(crate) fn selector_ok(selector: Selector, value: u8) -> bool
@@ -38,12 +37,31 @@ fn zeros_from(bytes: &[u8], from: usize) -> bool
     if bytes.len() < from {
         return true;
     }
-    all_below(&bytes[from..], 1)
+    all_zero(&bytes[from..])
+}
+
+// Without an early exit, so that the compiler can test many bytes at once.
+fn all_zero(bytes: &[u8]) -> bool
+    ensures { λ r. ⌜ r ≡ allBelow 1 (now (bytes .entry)) ⌝ }
+{
+    let mut clear = true;
+    let mut i = 0;
+    while i < bytes.len() {
+        if bytes[i] != 0 {
+            clear = false;
+        }
+        i += 1;
+    }
+    clear
 }
 
 fn challenge_ok(challenge: [u8; 16], filled: usize) -> bool
     ensures { λ r. ⌜ r ≡ (areBytes 16 challenge and sameList (drop filled challenge) (zeros (16 - filled))) ⌝ }
 {
+    // Most commands have none of it: apart, so that the compiler knows how many bytes to test.
+    if filled == 0 {
+        return zeros_from(&challenge, 0);
+    }
     zeros_from(&challenge, filled)
 }
 
