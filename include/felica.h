@@ -135,7 +135,10 @@ struct felica_answer {
     uint8_t code;
 };
 
-/* Written: `refusal` is 0 and `length` the bytes written. A refusal: its number, 21 or 22, and the length 0. */
+/*
+ * Written: `refusal` is 0 and `length` the bytes written. A refusal: its number, 21 or 22, and the length 0. The payload
+ * of 8E has the length 0 too: test `refusal`, not `length`.
+ */
 struct felica_written {
     uint8_t refusal;
     size_t length;
@@ -195,12 +198,13 @@ struct felica_answer felica_list_secure_payload(uint8_t command_code, const uint
  * Block numbers below 256 are in short form, and no tail is written, so that this is the shortest form. Bytes of `out`
  * behind it keep their values. The parser reads what was written as the command handed in.
  *
- * A field that the command lacks must be zero and a list that it lacks empty. 22 comes exactly when no accepted frame
+ * A field that the command lacks must be zero, idm and challenge too, and a list that it lacks empty. Of 10 and 12 the
+ * last eight bytes of challenge must be zero. 22 comes exactly when no accepted frame
  * and no accepted secure payload gives the command: among other things where a field or a list is there that the
  * command lacks, a value is undefined, a count is outside its range, `numbers`, `places` and `modes` differ in length,
  * a place is above 15 or an access mode above 7, `data` is not 16 bytes an element, the code is unknown, or the frame
  * would be longer than 255 bytes. Otherwise 21 comes exactly when the shortest form is longer than `out`. A refusal
- * leaves `out` as it was, and its code is the one handed in.
+ * leaves `out` as it was. It is one of the command whose code was handed in; the answer does not repeat that code.
  *
  * What the list reader gave goes back in as it came: the code, `idm`, `challenge` and the five of `fields`, the five
  * buffers with the counts in `parts` as lengths, and the bytes of DATA and PACKAGE where they stand. Of a frame and of

@@ -1,13 +1,13 @@
 //! The list reader against the answer that both parsers gave.
 use crate::ours;
-use crate::values::{Answer, Expected, Kind, Refusal, payload, shown};
+use crate::values::{Answer, Kind, Refusal, Values, payload, shown};
 use felica::Buffers;
 
 /// How many elements stand behind each buffer that a call is lent.
 const BEHIND: usize = 3;
 
 #[derive(Clone, Debug, PartialEq, Eq)]
-struct Lent {
+struct OwnedBuffers {
     first: Vec<u16>,
     second: Vec<u16>,
     numbers: Vec<u16>,
@@ -17,10 +17,10 @@ struct Lent {
 
 type Sizes = [usize; 5];
 
-impl Lent {
+impl OwnedBuffers {
     fn fresh(sizes: Sizes) -> Self {
         let [first, second, numbers, places, modes] = sizes.map(|size| size + BEHIND);
-        Lent {
+        OwnedBuffers {
             first: vec![0xA1B2; first],
             second: vec![0xC3D4; second],
             numbers: vec![0xE5F6; numbers],
@@ -29,7 +29,7 @@ impl Lent {
         }
     }
 
-    fn with_lists(mut self, lists: &Expected) -> Self {
+    fn with_lists(mut self, lists: &Values) -> Self {
         self.first[..lists.first.len()].copy_from_slice(&lists.first);
         self.second[..lists.second.len()].copy_from_slice(&lists.second);
         self.numbers[..lists.numbers.len()].copy_from_slice(&lists.numbers);
@@ -57,8 +57,8 @@ struct Asked<'a> {
 }
 
 impl Asked<'_> {
-    /// One call with buffers of these sizes: the right answer, and the memory behind the call.
-    fn gives(&self, sizes: Sizes, before: &Lent, right: &Answer, after: &Lent) -> Result<(), String> {
+    /// One call with buffers of these sizes: the right answer, and the memory after the call.
+    fn gives(&self, sizes: Sizes, before: &OwnedBuffers, right: &Answer, after: &OwnedBuffers) -> Result<(), String> {
         let mut lent = before.clone();
         let buffers = lent.buffers(sizes);
         let parsed = match self.kind {
@@ -81,12 +81,12 @@ impl Asked<'_> {
 pub fn check(kind: Kind, code: u8, bytes: &[u8], answer: &Answer) -> Result<(), String> {
     let asked = Asked { kind, code, bytes };
     let Ok(expected) = answer else {
-        let untouched = Lent::fresh([0; 5]);
+        let untouched = OwnedBuffers::fresh([0; 5]);
         asked.gives([0; 5], &untouched, answer, &untouched)?;
         return asked.gives([BEHIND; 5], &untouched, answer, &untouched);
     };
     let sizes = sizes(expected);
-    let before = Lent::fresh(sizes);
+    let before = OwnedBuffers::fresh(sizes);
     let after = before.clone().with_lists(expected);
     asked.gives(sizes, &before, answer, &after)?;
     asked.gives(sizes.map(|size| size + BEHIND), &before, answer, &after)?;
@@ -99,6 +99,6 @@ pub fn check(kind: Kind, code: u8, bytes: &[u8], answer: &Answer) -> Result<(), 
     Ok(())
 }
 
-fn sizes(lists: &Expected) -> Sizes {
+fn sizes(lists: &Values) -> Sizes {
     [lists.first.len(), lists.second.len(), lists.numbers.len(), lists.places.len(), lists.modes.len()]
 }

@@ -1,5 +1,5 @@
 //! The four arrays that parser and list reader for C write: all of them with a command, none with a refusal.
-use crate::values::{Answer, Expected, Kind, Refusal};
+use crate::values::{Answer, Kind, Refusal, Values};
 use felica::ffi;
 
 #[derive(Clone, PartialEq, Eq)]
@@ -27,18 +27,18 @@ pub fn check(kind: Kind, code: u8, bytes: &[u8], answer: &Answer) -> Result<(), 
         }
     })?;
     let Ok(expected) = answer else {
-        return check_lists(kind, code, bytes, &Expected::default(), answer);
+        return check_lists(kind, code, bytes, &Values::default(), answer);
     };
     check_lists(kind, code, bytes, expected, answer)?;
     if expected.first.is_empty() && expected.second.is_empty() && expected.numbers.is_empty() {
         return Ok(());
     }
     let too_small = Err(Refusal { number: 21, code: Some(expected.code) });
-    check_lists(kind, code, bytes, &Expected::default(), &too_small)
+    check_lists(kind, code, bytes, &Values::default(), &too_small)
 }
 
 /// The list reader with buffers of just the sizes of these lists.
-fn check_lists(kind: Kind, code: u8, bytes: &[u8], sizes: &Expected, answer: &Answer) -> Result<(), String> {
+fn check_lists(kind: Kind, code: u8, bytes: &[u8], sizes: &Values, answer: &Answer) -> Result<(), String> {
     let (at, size) = (bytes.as_ptr(), bytes.len());
     let mut lent = sizes.clone();
     let (first, firsts) = (lent.first.as_mut_ptr(), lent.first.len());

@@ -1,12 +1,12 @@
 //! The writer: against the writer of this program, against both parsers, and against the bytes that gave the command.
 use crate::layouts::{Behind, layout};
-use crate::values::{Expected, Kind, Refusal, payload, shown};
+use crate::values::{Kind, Refusal, Values, payload, shown};
 use crate::{ours, rust_side, writer};
 
 const FILL: u8 = 0xA5;
 
 /// Hands the writer what the accepted bytes gave.
-pub fn check_accepted(kind: Kind, bytes: &[u8], expected: &Expected) -> Result<(), String> {
+pub fn check_accepted(kind: Kind, bytes: &[u8], expected: &Values) -> Result<(), String> {
     let room = bytes.len() + 8;
     let longer = longer(expected, payload(kind, bytes))?;
     let accepted = bytes.len() + usize::from(kind == Kind::Payload);
@@ -26,7 +26,7 @@ pub fn check_accepted(kind: Kind, bytes: &[u8], expected: &Expected) -> Result<(
 }
 
 /// How many bytes the accepted form has more than the shortest: one for each long form of a number below 256, and the ignored tail.
-fn longer(expected: &Expected, payload: &[u8]) -> Result<usize, String> {
+fn longer(expected: &Values, payload: &[u8]) -> Result<usize, String> {
     let row = layout(expected.code).ok_or("a command of an unknown code")?;
     if !row.blocks {
         return Ok(0);
@@ -45,8 +45,8 @@ fn longer(expected: &Expected, payload: &[u8]) -> Result<usize, String> {
     Ok(longer + tail)
 }
 
-/// Both writers with a buffer of this size: the same answer, and the same buffer behind the call. What was written is read back by both parsers.
-pub fn check(expected: &Expected, size: usize) -> Result<Option<Vec<u8>>, String> {
+/// Both writers with a buffer of this size: the same answer, and the same buffer after the call. What was written is read back by both parsers.
+pub fn check(expected: &Values, size: usize) -> Result<Option<Vec<u8>>, String> {
     let handed = expected.handed();
     let (mut our_buffer, mut buffer) = (vec![FILL; size + 4], vec![FILL; size + 4]);
     let ours = felica::write(&handed, &mut our_buffer[..size]).map_err(Refusal::from);
@@ -77,7 +77,7 @@ fn outcome(written: Result<usize, Refusal>) -> String {
     }
 }
 
-fn read_back(expected: &Expected, written: &[u8]) -> Result<(), String> {
+fn read_back(expected: &Values, written: &[u8]) -> Result<(), String> {
     let secure = layout(expected.code).is_some_and(|row| row.secure);
     let kind = if secure { Kind::Secure } else { Kind::Frame };
     let ours = ours::answer(kind, expected.code, written)?;
@@ -90,7 +90,7 @@ fn read_back(expected: &Expected, written: &[u8]) -> Result<(), String> {
 }
 
 /// A buffer that just holds the shortest form, and one that lacks a byte.
-fn check_sizes(expected: &Expected, written: &[u8]) -> Result<(), String> {
+fn check_sizes(expected: &Values, written: &[u8]) -> Result<(), String> {
     if check(expected, written.len())?.as_deref() != Some(written) {
         return Err("the writer does not fill a buffer of just its size".into());
     }

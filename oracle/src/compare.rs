@@ -2,7 +2,7 @@
 use crate::cases::GROUPS;
 use crate::random::Random;
 use crate::tally::{Arisen, Tally};
-use crate::values::{Answer, Expected, Kind, shown, shown_case};
+use crate::values::{Answer, Kind, Values, shown, shown_case};
 use crate::{check_lists, check_memory, check_writer, handed, ours, rust_side};
 use std::time::Instant;
 
@@ -82,7 +82,7 @@ fn further(kind: Kind, code: u8, bytes: &[u8], answer: &Answer) -> Result<(), St
 }
 
 /// In a buffer that holds every command, and in one of about its size.
-fn writer_case(handed: &Expected, random: &mut Random) -> Result<bool, String> {
+fn writer_case(handed: &Values, random: &mut Random) -> Result<bool, String> {
     let written = check_writer::check(handed, 5000)?;
     let length = written.as_ref().map_or(0, |bytes| bytes.len());
     let size = random.one_of(&[0, 1, length.saturating_sub(1), length, length + 1]);

@@ -3,10 +3,10 @@ use crate::built::{Shape, built};
 use crate::layouts::LAYOUTS;
 use crate::random::Random;
 use crate::rust_side;
-use crate::values::{Expected, Kind};
+use crate::values::{Kind, Values};
 
 /// A command that felica-rs reads from good bytes, with up to three changes.
-pub fn drawn(random: &mut Random) -> Expected {
+pub fn drawn(random: &mut Random) -> Values {
     let row = random.one_of(&LAYOUTS);
     let bytes = built(&row, Shape::drawn(&row, random), random);
     let kind = if row.secure { Kind::Secure } else { Kind::Payload };
@@ -17,7 +17,7 @@ pub fn drawn(random: &mut Random) -> Expected {
     handed
 }
 
-fn change(handed: &mut Expected, random: &mut Random) {
+fn change(handed: &mut Values, random: &mut Random) {
     match random.within(0, 18) {
         0 => handed.code = random.byte(),
         1 => handed.code = random.one_of(&LAYOUTS).code,
@@ -37,7 +37,7 @@ fn change(handed: &mut Expected, random: &mut Random) {
         15 => element(handed, random),
         16 => handed.data.resize(random.one_of(&[0, 1, 15, 16, 17, 32, 208, 4080]), 0x11),
         17 => handed.package.resize(random.one_of(&[0, 1, 2, 16, 300]), 0x22),
-        _ => *handed = Expected { code: handed.code, ..Expected::default() },
+        _ => *handed = Values { code: handed.code, ..Values::default() },
     }
 }
 
@@ -45,7 +45,7 @@ fn resize(codes: &mut Vec<u16>, random: &mut Random) {
     codes.resize(random.one_of(&[0, 1, 2, 15, 16, 17, 31, 32, 33, 34, 255, 256, 257]), 0x1234);
 }
 
-fn one_list(handed: &mut Expected, random: &mut Random) {
+fn one_list(handed: &mut Values, random: &mut Random) {
     let blocks = handed.numbers.len();
     let size = random.one_of(&[0, 1, 255, 256, blocks + 1, blocks.saturating_sub(1)]);
     match random.within(0, 2) {
@@ -56,7 +56,7 @@ fn one_list(handed: &mut Expected, random: &mut Random) {
 }
 
 /// Lists of one length, and most often the data that belongs to it.
-fn all_lists(handed: &mut Expected, random: &mut Random) {
+fn all_lists(handed: &mut Values, random: &mut Random) {
     let size = random.one_of(&[0, 1, 2, 13, 14, 80, 119, 120, 121, 122, 254, 255, 256, 257, 300]);
     handed.numbers.resize(size, random.one_of(&[0x00FF, 0x0100]));
     handed.places.resize(size, 0x0F);
@@ -66,7 +66,7 @@ fn all_lists(handed: &mut Expected, random: &mut Random) {
     }
 }
 
-fn element(handed: &mut Expected, random: &mut Random) {
+fn element(handed: &mut Values, random: &mut Random) {
     let kind = random.within(0, 2);
     let number = random.one_of(&[0x0000, 0x00FF, 0x0100, 0xFFFF]);
     let (place, mode) = (random.one_of(&[0x0F, 0x10, 0x80, 0xFF]), random.one_of(&[0x07, 0x08, 0x80, 0xFF]));

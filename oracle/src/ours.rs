@@ -1,6 +1,6 @@
 //! What our parser answers, as plain values: the lists and the data are read from the payload at the parts that it names.
 use crate::layouts::{Behind, layout};
-use crate::values::{Answer, Expected, Kind, payload};
+use crate::values::{Answer, Kind, Values, payload};
 use felica::{Command, Part};
 
 /// Err says which part is not where its layout puts it.
@@ -20,10 +20,10 @@ pub fn answer_of(parsed: Result<Command, felica::Refusal>, payload: &[u8]) -> Re
     }
 }
 
-fn values(command: &Command, payload: &[u8]) -> Result<Expected, String> {
+fn values(command: &Command, payload: &[u8]) -> Result<Values, String> {
     check_places(command, payload)?;
     let elements = elements(payload, command.block_list).ok_or("the block list leaves the payload")?;
-    Ok(Expected {
+    Ok(Values {
         code: command.code,
         idm: command.idm,
         challenge: command.challenge,

@@ -1,7 +1,7 @@
 //! What felica-rs answers, as plain values.
 use crate::felica_rs::felica_standard::{BlockListElement, FelicaStandardCommand, FelicaStandardError, ServiceCode};
 use crate::texts;
-use crate::values::{Answer, Expected, Kind, Refusal, payload, shown_case};
+use crate::values::{Answer, Kind, Refusal, Values, payload, shown_case};
 use FelicaStandardCommand as C;
 
 pub fn answer(kind: Kind, code: u8, bytes: &[u8]) -> Answer {
@@ -26,10 +26,10 @@ pub fn refusal(error: &FelicaStandardError, kind: Kind, code: u8, bytes: &[u8]) 
     }
 }
 
-fn values(command: FelicaStandardCommand) -> Expected {
+fn values(command: FelicaStandardCommand) -> Values {
     match command {
         C::Polling { system_code, request_code, time_slots } => {
-            Expected { number: system_code, option: request_code, choice: time_slots, ..of(0x00) }
+            Values { number: system_code, option: request_code, choice: time_slots, ..of(0x00) }
         }
         C::RequestService { idm, service_codes } => of(0x02).idm(idm).services(service_codes),
         C::RequestResponse { idm } => of(0x04).idm(idm),
@@ -43,21 +43,21 @@ fn values(command: FelicaStandardCommand) -> Expected {
         C::RequestSystemCode { idm } => of(0x0C).idm(idm),
         C::RequestBlockInformation { idm, node_codes } => of(0x0E).idm(idm).first(node_codes),
         C::Authentication1 { idm, areas, services, challenge_1a } => {
-            Expected { second: services, ..of(0x10).idm(idm).first(areas).challenge(&challenge_1a) }
+            Values { second: services, ..of(0x10).idm(idm).first(areas).challenge(&challenge_1a) }
         }
         C::Authentication2 { idm, challenge_2b } => of(0x12).idm(idm).challenge(&challenge_2b),
         C::RequestCodeList { idm, parent_node_code, index } => {
-            Expected { index, ..of(0x1A).idm(idm).number(parent_node_code) }
+            Values { index, ..of(0x1A).idm(idm).number(parent_node_code) }
         }
         C::RequestBlockInformationEx { idm, node_codes } => of(0x1E).idm(idm).first(node_codes),
         C::SetParameter { idm, encryption_type, packet_type } => {
-            Expected { option: encryption_type.to_byte(), choice: packet_type.to_byte(), ..of(0x20).idm(idm) }
+            Values { option: encryption_type.to_byte(), choice: packet_type.to_byte(), ..of(0x20).idm(idm) }
         }
         other => later_values(other),
     }
 }
 
-fn later_values(command: FelicaStandardCommand) -> Expected {
+fn later_values(command: FelicaStandardCommand) -> Values {
     match command {
         C::GetContainerIssueInformation { idm } => of(0x22).idm(idm),
         C::GetAreaInformation { idm, node_code } => of(0x24).idm(idm).number(node_code),
@@ -79,7 +79,7 @@ fn later_values(command: FelicaStandardCommand) -> Expected {
     }
 }
 
-fn secure_values(command: FelicaStandardCommand) -> Expected {
+fn secure_values(command: FelicaStandardCommand) -> Values {
     match command {
         C::Read { block_list } => of(0x14).blocks(&block_list),
         C::Write { block_list, data } => of(0x16).blocks(&block_list).data(data),
@@ -95,25 +95,25 @@ fn secure_values(command: FelicaStandardCommand) -> Expected {
     }
 }
 
-fn of(code: u8) -> Expected {
-    Expected { code, ..Expected::default() }
+fn of(code: u8) -> Values {
+    Values { code, ..Values::default() }
 }
 
-impl Expected {
+impl Values {
     fn idm(self, idm: [u8; 8]) -> Self {
-        Expected { idm, ..self }
+        Values { idm, ..self }
     }
 
     fn selector(self, selector: u8) -> Self {
-        Expected { selector, ..self }
+        Values { selector, ..self }
     }
 
     fn number(self, number: u16) -> Self {
-        Expected { number, ..self }
+        Values { number, ..self }
     }
 
     fn first(self, first: Vec<u16>) -> Self {
-        Expected { first, ..self }
+        Values { first, ..self }
     }
 
     fn services(self, codes: Vec<ServiceCode>) -> Self {
@@ -126,7 +126,7 @@ impl Expected {
     }
 
     fn blocks(self, elements: &[BlockListElement]) -> Self {
-        Expected {
+        Values {
             numbers: elements.iter().map(|element| element.block_number_or_key_version).collect(),
             places: elements.iter().map(|element| element.service_code_list_index).collect(),
             modes: elements.iter().map(|element| element.access_mode).collect(),
@@ -135,10 +135,10 @@ impl Expected {
     }
 
     fn data(self, data: Vec<u8>) -> Self {
-        Expected { data, ..self }
+        Values { data, ..self }
     }
 
     fn package(self, package: Vec<u8>) -> Self {
-        Expected { package, ..self }
+        Values { package, ..self }
     }
 }

@@ -3,13 +3,13 @@ use crate::built::{Forms, Shape, built};
 use crate::layouts::{Behind, LAYOUTS, Layout, layout};
 use crate::random::Random;
 use crate::rust_side;
-use crate::values::{Expected, Kind};
+use crate::values::{Kind, Values};
 
 pub struct Sample {
     pub kind: Kind,
     pub code: u8,
     pub bytes: Vec<u8>,
-    pub command: Expected,
+    pub command: Values,
 }
 
 pub struct Set {
@@ -19,7 +19,7 @@ pub struct Set {
 
 const SAMPLES: usize = 1000;
 
-/// Read, Write, Polling, Request Service and Request Response, by the hundred.
+/// Read, Write, Polling, Request Service and Request Response: how many of each in a hundred.
 const MIX: [(u8, usize); 5] = [(0x06, 40), (0x08, 20), (0x00, 15), (0x02, 15), (0x04, 10)];
 
 pub fn sets() -> [Set; 3] {
@@ -29,7 +29,7 @@ pub fn sets() -> [Set; 3] {
     [set("mix", &mixed, &mut random), set("even", &every, &mut random), set("polling", &[0x00], &mut random)]
 }
 
-/// Each code equally often, in an order that does not repeat.
+/// Each entry of `codes` equally often, shuffled.
 fn set(name: &'static str, codes: &[u8], random: &mut Random) -> Set {
     let mut drawn: Vec<u8> = codes.iter().copied().cycle().take(SAMPLES / codes.len() * codes.len()).collect();
     for at in (1..drawn.len()).rev() {

@@ -11,7 +11,7 @@ pub enum Kind {
 
 /// A command with the fields of document 01, zero or empty where its layout lacks them.
 #[derive(Clone, Debug, Default, PartialEq, Eq)]
-pub struct Expected {
+pub struct Values {
     pub code: u8,
     pub idm: [u8; 8],
     pub challenge: [u8; 16],
@@ -36,9 +36,9 @@ pub struct Refusal {
     pub code: Option<u8>,
 }
 
-pub type Answer = Result<Expected, Refusal>;
+pub type Answer = Result<Values, Refusal>;
 
-/// An answer for the eye: bytes in hexadecimal, a refusal's number in decimal.
+/// An answer as text: bytes in hexadecimal, a refusal's number in decimal.
 pub fn shown(answer: &Answer) -> String {
     match answer {
         Ok(command) => format!("{command:02X?}"),
@@ -55,7 +55,7 @@ impl fmt::Display for Refusal {
     }
 }
 
-/// A case for the eye.
+/// A case as text.
 pub fn shown_case(kind: Kind, code: u8, bytes: &[u8]) -> String {
     let bytes: String = bytes.iter().map(|byte| format!("{byte:02X}")).collect();
     match kind {
@@ -65,7 +65,7 @@ pub fn shown_case(kind: Kind, code: u8, bytes: &[u8]) -> String {
     }
 }
 
-impl Expected {
+impl Values {
     pub fn handed(&self) -> felica::Handed<'_> {
         felica::Handed {
             code: self.code,

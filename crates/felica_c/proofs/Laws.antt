@@ -19,7 +19,7 @@ use Rattle.felica_write.specs.declared.Written.the-variants.{Length, Refused as
 use Rattle.felica_write.specs.Writing as writer
 use Rattle.felica_c.specs.declared.answer.FelicaAnswer.{FelicaAnswer}
 use Rattle.felica_c.specs.declared.answer.FelicaWritten.{FelicaWritten}
-use Rattle.felica_c.specs.Boundary.{Lent, lent, partsOf, Told, told, answer, telling, written}
+use Rattle.felica_c.specs.Boundary.{Lent, lent, partsOf, Told, told, answer, telling, writtenAnswer}
 use Rattle.felica_c.specs.Fields.{Put, put, putFields, refusal, refusalCode, tellAnswer, tell, unwrittenBy}
 
 pub same-put : (code : ℕ) (fields parts others : List ℕ) → parts ≡ others → put code fields parts ≡ put code fields others
@@ -68,25 +68,25 @@ list-tells s at o p b m t is placed tells =
     (tells ∙ result-tells s at (meaning s p) p m refl placed ∙ ap (λ (x : Outcome). telling at s (x .answer) m) is, ap (λ (x : Outcome). x .buffers) is)
 
 -- the writer's result w, told as r
-length-told : (w : Written) (n : ℕ) → w ≡ Length n → record { refusal = 0; length = n } ≡ written (writer.meaning w)
-length-told w n is = ap (λ (x : Written). written (writer.meaning x)) (sym is)
+length-told : (w : Written) (n : ℕ) → w ≡ Length n → record { refusal = 0; length = n } ≡ writtenAnswer (writer.meaning w)
+length-told w n is = ap (λ (x : Written). writtenAnswer (writer.meaning x)) (sym is)
 
-refusal-told : (why : Refusal) → unwrittenBy why ≡ written (writer.meaning (WrittenRefused why))
+refusal-told : (why : Refusal) → unwrittenBy why ≡ writtenAnswer (writer.meaning (WrittenRefused why))
 refusal-told (Number n) = refl
 refusal-told (OfCommand n code) = refl
 
-unwritten-told : (w : Written) (why : Refusal) (r : FelicaWritten) → w ≡ WrittenRefused why → r ≡ unwrittenBy why → r ≡ written (writer.meaning w)
-unwritten-told w why r is same = same ∙ refusal-told why ∙ ap (λ (x : Written). written (writer.meaning x)) (sym is)
+unwritten-told : (w : Written) (why : Refusal) (r : FelicaWritten) → w ≡ WrittenRefused why → r ≡ unwrittenBy why → r ≡ writtenAnswer (writer.meaning w)
+unwritten-told w why r is same = same ∙ refusal-told why ∙ ap (λ (x : Written). writtenAnswer (writer.meaning x)) (sym is)
 
 write-tells : (o : writer.Outcome) (w : Written) (after : List ℕ) (r : FelicaWritten) → writer.outcome (writer.meaning w) after ≡ o
-    → r ≡ written (writer.meaning w) → (r ≡ written (o .answer)) × (after ≡ o .buffer)
+    → r ≡ writtenAnswer (writer.meaning w) → (r ≡ writtenAnswer (o .answer)) × (after ≡ o .buffer)
 write-tells o w after r is same =
-    (same ∙ ap (λ (x : writer.Outcome). written (x .answer)) is, ap (λ (x : writer.Outcome). x .buffer) is)
+    (same ∙ ap (λ (x : writer.Outcome). writtenAnswer (x .answer)) is, ap (λ (x : writer.Outcome). x .buffer) is)
 
 pub length-tells : (o : writer.Outcome) (w : Written) (n : ℕ) (after : List ℕ) → writer.outcome (writer.meaning w) after ≡ o → w ≡ Length n
-    → (record { refusal = 0; length = n } ≡ written (o .answer)) × (after ≡ o .buffer)
+    → (record { refusal = 0; length = n } ≡ writtenAnswer (o .answer)) × (after ≡ o .buffer)
 length-tells o w n after is wrote = write-tells o w after _ is (length-told w n wrote)
 
 pub refusal-tells : (o : writer.Outcome) (w : Written) (why : Refusal) (r : FelicaWritten) (after : List ℕ) → writer.outcome (writer.meaning w) after ≡ o
-    → w ≡ WrittenRefused why → r ≡ unwrittenBy why → (r ≡ written (o .answer)) × (after ≡ o .buffer)
+    → w ≡ WrittenRefused why → r ≡ unwrittenBy why → (r ≡ writtenAnswer (o .answer)) × (after ≡ o .buffer)
 refusal-tells o w why r after is refused same = write-tells o w after r is (unwritten-told w why r refused same)

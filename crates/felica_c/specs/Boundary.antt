@@ -31,7 +31,7 @@ partsOf q =
     q .first .start ∷ q .first .count ∷ q .second .start ∷ q .second .count ∷ q .elements .start ∷ q .elements .count ∷ q .blockData .start ∷
     q .blockData .count ∷ q .issuePackage .start ∷ q .issuePackage .count ∷ []
 
--- a result, and the memory behind the call
+-- a result, and the memory after the call
 pub record Told : Type 0 where
   pub answer : FelicaAnswer
   pub memory : Lent
@@ -61,6 +61,6 @@ fixed idm challenge selector number index option choice =
     record { idm = idm; selector = selector; number = number; index = index; option = option; choice = choice; challenge = challenge }
 
 -- what the writer answers: the length with the number 0, or the length 0 with the number of the refusal
-abbrev pub written : Writing → FelicaWritten
-written (wrote n) = record { refusal = 0; length = n }
-written (notWritten n code) = record { refusal = n; length = 0 }
+abbrev pub writtenAnswer : Writing → FelicaWritten
+writtenAnswer (wrote n) = record { refusal = 0; length = n }
+writtenAnswer (notWritten n code) = record { refusal = n; length = 0 }

@@ -1,4 +1,5 @@
--- The fields and parts of a command's kind, as `fields` and `parts` have them. A step between the contracts of this crate; no user reads it.
+-- The fields and parts of a command's kind, as `fields` and `parts` have them. A step between the contracts of this crate: `tell` and `unwritten` are
+-- stated by it, the functions for C by Boundary.antt.
 -- Assumes nothing.
 use Prim.Native.Nat.{ℕ}
 use mathlib.Core.List.{List}

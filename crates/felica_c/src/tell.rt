@@ -1,7 +1,7 @@
 // A result, told to a caller that knows bytes and numbers only.
 ghost use mathlib.Core.Path.{_≡_};
 ghost use Rattle.felica_c.specs.Boundary.{lent, told, answer};
-ghost use Rattle.felica_c.specs.Fields.{refusal, refusalCode, tell as telling, unwrittenBy};
+ghost use Rattle.felica_c.specs.Fields.{refusal, refusalCode, tell as tellParsed, unwrittenBy};
 use crate::answer::FelicaAnswer;
 use crate::answer::FelicaWritten;
 use crate::fields::put_fields;
@@ -17,7 +17,7 @@ pub fn tell(
     fields: &mut [u16; 5],
     parts: &mut [usize; 10],
 ) -> FelicaAnswer
-    ensures { λ r. ⌜ told r (lent (now (idm .exit)) (now (challenge .exit)) (now (fields .exit)) (now (parts .exit))) ≡ telling parsed (lent (now (idm .entry)) (now (challenge .entry)) (now (fields .entry)) (now (parts .entry))) ⌝ }
+    ensures { λ r. ⌜ told r (lent (now (idm .exit)) (now (challenge .exit)) (now (fields .exit)) (now (parts .exit))) ≡ tellParsed parsed (lent (now (idm .entry)) (now (challenge .entry)) (now (fields .entry)) (now (parts .entry))) ⌝ }
 {
     let answer = parsed.answer;
     match answer {

@@ -2,7 +2,7 @@
 ghost use mathlib.Core.Path.{_≡_};
 ghost use Rattle.felica_command.specs.Handed.{handed};
 ghost use Rattle.felica_write.specs.Writing.{writing};
-ghost use Rattle.felica_c.specs.Boundary.{fixed, written};
+ghost use Rattle.felica_c.specs.Boundary.{fixed, writtenAnswer};
 use felica_c::answer::FelicaWritten;
 use felica_c::tell::unwritten;
 use felica_command::fixed::Fixed;
@@ -28,7 +28,7 @@ pub extern "C" fn felica_write(
     package: &[u8],
     out: &mut [u8],
 ) -> FelicaWritten
-    ensures { λ r. ⌜ (r ≡ written (writing (handed code (fixed (now (idm .entry)) (now (challenge .entry)) selector number index option choice) (now (first .entry)) (now (second .entry)) (now (numbers .entry)) (now (places .entry)) (now (modes .entry)) (now («data» .entry)) (now («package» .entry))) (now (out .entry)) .answer)) × (now (out .exit) ≡ writing (handed code (fixed (now (idm .entry)) (now (challenge .entry)) selector number index option choice) (now (first .entry)) (now (second .entry)) (now (numbers .entry)) (now (places .entry)) (now (modes .entry)) (now («data» .entry)) (now («package» .entry))) (now (out .entry)) .buffer) ⌝ }
+    ensures { λ r. ⌜ (r ≡ writtenAnswer (writing (handed code (fixed (now (idm .entry)) (now (challenge .entry)) selector number index option choice) (now (first .entry)) (now (second .entry)) (now (numbers .entry)) (now (places .entry)) (now (modes .entry)) (now («data» .entry)) (now («package» .entry))) (now (out .entry)) .answer)) × (now (out .exit) ≡ writing (handed code (fixed (now (idm .entry)) (now (challenge .entry)) selector number index option choice) (now (first .entry)) (now (second .entry)) (now (numbers .entry)) (now (places .entry)) (now (modes .entry)) (now («data» .entry)) (now («package» .entry))) (now (out .entry)) .buffer) ⌝ }
 {
     let its_idm = *idm;
     let its_challenge = *challenge;
