@@ -26,7 +26,7 @@ use Rattle.felica_format.proofs.Grounds.{frame-refusals}
 use Rattle.felica_text.specs.Text.{text}
 use Rattle.felica_text.proofs.Text.{decimal-length}
 use Rattle.felica_fields.specs.Refused.{refusedText}
-use Rattle.felica_line.specs.Line.{markText, marksText, markField, listedCodes, acceptedText, frameText, recordLine, blocksIn}
+use Rattle.felica_line.specs.Line.{keyText, isSystem, isArea, markText, marksText, markField, listedCodes, acceptedText, frameText, recordLine, blocksIn}
 
 count-few : (m o least greatest : ℕ) (s : List ℕ) (n : ℕ) (r : List ℕ) → readCount m o least greatest s ≡ taken n r → n ≤ greatest
 unfolding readCount
@@ -118,13 +118,15 @@ blocks-few s = go (readFrame s) refl
     go (gives c) e = frame-few s c e .blocks
     go (refused n code) e = omega arith
 
+either-length : (test : Bool) (a b : List ℕ) → length a ≡ 1 → length b ≡ 1 → length (cond test a b) ≡ 1
+either-length true a b p q = p
+either-length false a b p q = q
+
 -- a mark is one byte
 mark-length : (code : ℕ) → length (markText code) ≡ 1
-mark-length code = go (eqb (code % 2) 1)
-  where
-    go : (odd : Bool) → length (cond odd (text "o") (text "k")) ≡ 1
-    go true = refl
-    go false = refl
+mark-length code =
+    either-length (isSystem code) (text "s") (cond (isArea code) (text "a") (keyText code)) refl
+    (either-length (isArea code) (text "a") (keyText code) refl (either-length (eqb (code % 2) 1) (text "o") (text "k") refl refl))
 
 marks-length : (codes : List ℕ) → length (marksText codes) ≡ length codes
 unfolding marksText

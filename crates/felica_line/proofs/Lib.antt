@@ -1,3 +1,5 @@
 pub mod Bounds
+pub mod Examples
 pub mod Marks
 pub mod Result
+pub mod Rules

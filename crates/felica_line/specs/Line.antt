@@ -3,16 +3,28 @@
 use Prim.Native.Nat.{ℕ, _%_}
 use mathlib.Core.Bool.{Bool, true, false, cond}
 use mathlib.Core.List.{List, [], _∷_, _++_}
-use lib.Dec.{eqb}
+use lib.Dec.{ltb, eqb}
 use lib.ListN.{length}
 use Rattle.felica_format.specs.Command.{Command}
 use Rattle.felica_format.specs.Read.{Answer as Reading, gives, refused}
 use Rattle.felica_text.specs.Text.{text, byteText, decimalText}
 use Rattle.felica_fields.specs.Refused.{refusedText}
 
--- "Mark `o` (no key) when the code's lowest bit is 1, else `k`."
+-- 01: "Mark `o` (no key) when the code's lowest bit is 1, else `k`."
+abbrev pub keyText : ℕ → List ℕ
+keyText code = cond (eqb (code % 2) 1) (text "o") (text "k")
+
+-- W-201: "FFFF names the system and gets `s`."
+abbrev pub isSystem : ℕ → Bool
+isSystem code = eqb code 0xFFFF
+
+-- "A listed code whose low six bits are 0 or 1 shall get the mark `a`."
+abbrev pub isArea : ℕ → Bool
+isArea code = ltb (code % 64) 2
+
+-- "This amends 01's rule on marks; other codes keep theirs"
 abbrev pub markText : ℕ → List ℕ
-markText code = cond (eqb (code % 2) 1) (text "o") (text "k")
+markText code = cond (isSystem code) (text "s") (cond (isArea code) (text "a") (keyText code))
 
 unfoldable pub marksText : List ℕ → List ℕ
 marksText [] = []

@@ -63,8 +63,15 @@ fn put_marks(out: &mut [u8], at: usize, payload: &[u8], list: Part) -> usize
     next
 }
 
+// The system, an area, a service that needs no key, or one that needs one.
 fn mark_of(code: u16) -> u8
     ensures { λ r. ⌜ r ∷ [] ≡ markText code ⌝ }
 {
+    if code == 0xFFFF {
+        return b's';
+    }
+    if code % 64 < 2 {
+        return b'a';
+    }
     if code % 2 == 1 { b'o' } else { b'k' }
 }
