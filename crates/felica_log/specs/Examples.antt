@@ -24,7 +24,8 @@ AllSamplesListed (s ∷ rest) = (listing (s .log) ≡ linesText (s .lines)) × A
 abbrev pub sample : List ℕ → List String → Sample
 sample log lines = record { log = log; lines = lines }
 
--- "For 06 06 00 FF FF 00 00, 01 01, 10 10 06 I8 01 0B 10 01 80 00"; a log that is cut off; an empty one; Authentication1 with an area and two services
+-- "For 06 06 00 FF FF 00 00, 01 01, 10 10 06 I8 01 0B 10 01 80 00"; a log that is cut off; an empty one; Authentication1 with an area and two services; Request Service with an area of
+-- attribute 1, the system and two services
 unfoldable pub samples : List Sample
 samples =
     sample
@@ -34,5 +35,8 @@ samples =
     ∷ sample [] ("TOTAL 0 0 0 0" ∷ [])
     ∷ sample
     ((0x1A ∷ 0x1A ∷ 0x10 ∷ []) ++ (I8 ++ ((0x01 ∷ 0x00 ∷ 0x00 ∷ 0x02 ∷ 0x08 ∷ 0x10 ∷ 0x0B ∷ 0x10 ∷ []) ++ I8)))
-    ("1 OK 10 3 0 kko" ∷ "TOTAL 1 1 0 0" ∷ [])
+    ("1 OK 10 3 0 ako" ∷ "TOTAL 1 1 0 0" ∷ [])
+    ∷ sample
+    ((0x13 ∷ 0x13 ∷ 0x02 ∷ []) ++ (I8 ++ (0x04 ∷ 0x01 ∷ 0x00 ∷ 0xFF ∷ 0xFF ∷ 0x0B ∷ 0x10 ∷ 0x08 ∷ 0x10 ∷ [])))
+    ("1 OK 02 4 0 asok" ∷ "TOTAL 1 1 0 0" ∷ [])
     ∷ []
