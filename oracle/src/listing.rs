@@ -64,7 +64,7 @@ fn list_frame(frame: &[u8], totals: &mut Totals, out: &mut impl Write) -> io::Re
             totals.accepted += 1;
             totals.blocks += blocks as u64;
             write!(out, "{ordinal} OK {code:02X} {} {blocks} ", codes.len())?;
-            let marks: Vec<u8> = codes.iter().map(|code| if code & 1 == 1 { b'o' } else { b'k' }).collect();
+            let marks: Vec<u8> = codes.iter().copied().map(mark).collect();
             out.write_all(if marks.is_empty() { b"-" } else { &marks })?;
             out.write_all(b"\n")
         }
@@ -99,5 +99,15 @@ fn blocks(command: &C) -> usize {
     match command {
         C::ReadWithoutEncryption { block_list, .. } | C::WriteWithoutEncryption { block_list, .. } => block_list.len(),
         _ => 0,
+    }
+}
+
+/// The system, an area, a service that needs no key, or one that needs one.
+fn mark(code: u16) -> u8 {
+    match code {
+        0xFFFF => b's',
+        _ if code & 0x3F <= 1 => b'a',
+        _ if code & 1 == 1 => b'o',
+        _ => b'k',
     }
 }
