@@ -68,10 +68,12 @@ fn mark_of(code: u16) -> u8
     ensures { λ r. ⌜ r ∷ [] ≡ markText code ⌝ }
 {
     if code == 0xFFFF {
-        return b's';
+        b's'
+    } else if code % 64 < 2 {
+        b'a'
+    } else if code % 2 == 1 {
+        b'o'
+    } else {
+        b'k'
     }
-    if code % 64 < 2 {
-        return b'a';
-    }
-    if code % 2 == 1 { b'o' } else { b'k' }
 }

@@ -1,5 +1,6 @@
 -- `mark_of` meets its contract.
 -- Assumes nothing.
+use Prim.Native.Nat.{_%_}
 use borrow.Author.Tests.{eq-eqb, ne-eqb}
 use native.Mathlib.Omega.{arith}
 use mathlib.Core.Path.{sym, _∙_}
@@ -14,10 +15,10 @@ returns-2 : tie.Need-returns-2
 returns-2 c = sym (area-marked (c .before .before .args .code) (omega arith))
 
 returns-3 : tie.Need-returns-3
-returns-3 c = sym (other-marked (c .before .before .before .args .code) (c .before .before .if1 .left) (omega arith) ∙ rw (eq-eqb _ _ (c .if3 .taken)))
+returns-3 c = sym (other-marked (c .before .before .before .args .code) (c .before .before .if1 .left) (omega arith) ∙ rw (eq-eqb (c .before .before .before .args .code % 2) 1 (omega arith)))
 
 returns-4 : tie.Need-returns-4
-returns-4 c = sym (other-marked (c .before .before .before .args .code) (c .before .before .if1 .left) (omega arith) ∙ rw (ne-eqb _ _ (c .if3 .left)))
+returns-4 c = sym (other-marked (c .before .before .before .args .code) (c .before .before .if1 .left) (omega arith) ∙ rw (ne-eqb (c .before .before .before .args .code % 2) 1 λ e. omega arith))
 
 pub mark-of-spec : {M : Type 1} → statement M
 mark-of-spec = tie.close (tie.spec returns returns-2 returns-3 returns-4)
