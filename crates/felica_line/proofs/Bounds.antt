@@ -1,6 +1,6 @@
 -- How much a frame can list: no accepted frame has more than 64 codes or 255 blocks, and no line of a listing is longer than the room that a step asks for.
 -- Assumes nothing.
-use Prim.Native.Nat.{ℕ, suc, _%_, _≤_}
+use Prim.Native.Nat.{ℕ, suc, _≤_}
 use native.Mathlib.Omega.{arith}
 use mathlib.Core.Logic.{_⊎_, inl, inr}
 use mathlib.Core.Path.{_≡_, refl, sym, ap, _∙_, subst}
@@ -23,10 +23,10 @@ use Rattle.felica_format.proofs.Rows.{few-codes}
 use Rattle.felica_command.proofs.Inside.{wordsOf-length, each-leaves, took}
 use Rattle.felica_format.specs.Grounds.{Number}
 use Rattle.felica_format.proofs.Grounds.{frame-refusals}
-use Rattle.felica_text.specs.Text.{text}
 use Rattle.felica_text.proofs.Text.{decimal-length}
 use Rattle.felica_fields.specs.Refused.{refusedText}
-use Rattle.felica_line.specs.Line.{keyText, isSystem, isArea, markText, marksText, markField, listedCodes, acceptedText, frameText, recordLine, blocksIn}
+use Rattle.felica_line.proofs.Rules.{each-mark}
+use Rattle.felica_line.specs.Line.{markText, marksText, markField, listedCodes, acceptedText, frameText, recordLine, blocksIn}
 
 count-few : (m o least greatest : ℕ) (s : List ℕ) (n : ℕ) (r : List ℕ) → readCount m o least greatest s ≡ taken n r → n ≤ greatest
 unfolding readCount
@@ -118,15 +118,9 @@ blocks-few s = go (readFrame s) refl
     go (gives c) e = frame-few s c e .blocks
     go (refused n code) e = omega arith
 
-either-length : (test : Bool) (a b : List ℕ) → length a ≡ 1 → length b ≡ 1 → length (cond test a b) ≡ 1
-either-length true a b p q = p
-either-length false a b p q = q
-
 -- a mark is one byte
 mark-length : (code : ℕ) → length (markText code) ≡ 1
-mark-length code =
-    either-length (isSystem code) (text "s") (cond (isArea code) (text "a") (keyText code)) refl
-    (either-length (isArea code) (text "a") (keyText code) refl (either-length (eqb (code % 2) 1) (text "o") (text "k") refl refl))
+mark-length code = each-mark code (λ mark. length mark ≡ 1) (λ is. refl) (λ low. refl) refl refl
 
 marks-length : (codes : List ℕ) → length (marksText codes) ≡ length codes
 unfolding marksText

@@ -5,7 +5,7 @@ use native.Mathlib.Omega.{arith}
 use mathlib.Core.Path.{_≡_, refl}
 use mathlib.Core.Logic.{_⊎_, inl, inr, ⊎-elim, _≢_}
 use mathlib.Core.Bool.{Bool, true, false, cond}
-use mathlib.Core.List.{[], _∷_}
+use mathlib.Core.List.{List, [], _∷_}
 use lib.Dec.{eqb}
 use borrow.Author.Tests.{eqb-true, ltb-true, eq-eqb, ne-eqb, lt-ltb, le-ltb}
 use Rattle.felica_text.specs.Text.{text}
@@ -22,22 +22,27 @@ area-marked code low = rw (ne-eqb code 0xFFFF λ is. omega arith, lt-ltb (code %
 pub other-marked : (code : ℕ) → code ≢ 0xFFFF → 2 ≤ code % 64 → markText code ≡ keyText code
 other-marked code other high = rw (ne-eqb code 0xFFFF other, le-ltb (code % 64) 2 high)
 
--- 01's rule gives no third mark; the codes of `o` and `k` are 111 and 107
-key-alone : (code mark : ℕ) → mark ≢ 111 → mark ≢ 107 → keyText code ≡ mark ∷ [] → ⊥
-key-alone code mark no-o no-k = go (eqb (code % 2) 1)
+-- what holds of the four marks holds of every code's; `s` and `a` come with what they tell of the code
+pub each-mark : (code : ℕ) (P : List ℕ → Type 0) → (code ≡ 0xFFFF → P (text "s")) → (code % 64 < 2 → P (text "a")) → P (text "o") → P (text "k") → P (markText code)
+each-mark code P system area o k = go (isSystem code) refl (isArea code) refl (eqb (code % 2) 1)
   where
-    go : (odd : Bool) → cond odd (text "o") (text "k") ≡ mark ∷ [] → ⊥
-    go true h = no-o cc
-    go false h = no-k cc
+    go : (x : Bool) → isSystem code ≡ x → (y : Bool) → isArea code ≡ y → (odd : Bool) → P (cond x (text "s") (cond y (text "a") (cond odd (text "o") (text "k"))))
+    go true is y low odd = system (eqb-true code 0xFFFF is)
+    go false is true low odd = area (ltb-true (code % 64) 2 low)
+    go false is false low true = o
+    go false is false low false = k
 
--- the codes of `s` and `a` are 115 and 97
+same-byte : {a b : ℕ} → a ∷ [] ≡ b ∷ [] → a ≡ b
+same-byte h = cc
+
 pub system-exactly : SystemExactly
-system-exactly code = (there (isSystem code) refl (isArea code), system-marked code)
-  where
-    there : (system : Bool) → isSystem code ≡ system → (area : Bool) → cond system (text "s") (cond area (text "a") (keyText code)) ≡ text "s" → code ≡ 0xFFFF
-    there true is area h = eqb-true code 0xFFFF is
-    there false is true h = absurd (let z : _≡_ {A = ℕ} 97 115 = cc in omega arith)
-    there false is false h = absurd (key-alone code 115 (λ e. omega arith) (λ e. omega arith) h)
+system-exactly code = (
+  each-mark code (λ mark. mark ≡ text "s" → code ≡ 0xFFFF) (λ is h. is)
+      (λ low h. absurd (omega (arith, same-byte h)))
+      (λ h. absurd (omega (arith, same-byte h)))
+      (λ h. absurd (omega (arith, same-byte h))),
+  system-marked code,
+)
 
 zero-or-one : (n : ℕ) → n < 2 → (n ≡ 0) ⊎ (n ≡ 1)
 zero-or-one zero h = inl refl
@@ -45,13 +50,14 @@ zero-or-one (suc zero) h = inr refl
 zero-or-one (suc (suc n)) h = absurd (omega arith)
 
 pub area-exactly : AreaExactly
-area-exactly code =
-    (there (isSystem code) (isArea code) refl, ⊎-elim (λ (e : code % 64 ≡ 0). area-marked code (omega arith)) (λ (e : code % 64 ≡ 1). area-marked code (omega arith)))
-  where
-    there : (system area : Bool) → isArea code ≡ area → cond system (text "s") (cond area (text "a") (keyText code)) ≡ text "a" → (code % 64 ≡ 0) ⊎ (code % 64 ≡ 1)
-    there true area is h = absurd (let z : _≡_ {A = ℕ} 115 97 = cc in omega arith)
-    there false true is h = zero-or-one (code % 64) (ltb-true (code % 64) 2 is)
-    there false false is h = absurd (key-alone code 97 (λ e. omega arith) (λ e. omega arith) h)
+area-exactly code = (
+  each-mark code (λ mark. mark ≡ text "a" → (code % 64 ≡ 0) ⊎ (code % 64 ≡ 1))
+      (λ is h. absurd (omega (arith, same-byte h)))
+      (λ low h. zero-or-one (code % 64) low)
+      (λ h. absurd (omega (arith, same-byte h)))
+      (λ h. absurd (omega (arith, same-byte h))),
+  ⊎-elim (λ (e : code % 64 ≡ 0). area-marked code (omega arith)) (λ (e : code % 64 ≡ 1). area-marked code (omega arith)),
+)
 
 pub others-kept : OthersKept
-others-kept code other even odd = other-marked code other (omega arith)
+others-kept code other not-0 not-1 = other-marked code other (omega arith)
