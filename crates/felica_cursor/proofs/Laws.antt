@@ -11,10 +11,10 @@ use lib.Dec.{ltb, leb}
 use lib.ListN.{length, getD, drop, length-drop, set, length-replicate, replicate-append-replicate}
 use lib.Seq.{drop-cons, drop-drop, paste, paste-suc, getD-drop, drop-at}
 use borrow.Author.Tests.{ltb-false, leb-true, leb-false, lt-ltb, le-ltb, ne-eqb}
-use Rattle.felica_format.specs.Basic.{Step, taken, refuse, bind, refuseIf, isOneOf, zeros, wordOf, wordAt, _and_}
+use Rattle.felica_format.specs.Basic.{Step, taken, refuse, bind, refuseIf, zeros, wordOf, wordAt, _and_}
 use Rattle.felica_format.specs.Command.{Element, endFields, noFields}
 use Rattle.felica_format.specs.Layout.{Ending, bare, polling, nothing}
-use Rattle.felica_format.specs.Read.{wordsOf, readElement, readEach, readLong, readShort, readEnding, readValues, sizeOf, zeroAt, timeSlots}
+use Rattle.felica_format.specs.Read.{wordsOf, readElement, readEach, readLong, readShort, readEnding, readValues, sizeOf, zeroAt, isTimeSlots}
 use Rattle.felica_format.proofs.Steps.{none-taken}
 use Rattle.felica_command.specs.Places.{elementSize, elementsSize}
 use Rattle.felica_cursor.specs.Answers.{asStep, MovesTo, movedWith}
@@ -197,7 +197,7 @@ ltb-not-leb a b = go (leb a b) refl
     go true e = le-ltb b a (leb-true a b e)
     go false e = lt-ltb b a (leb-false a b e)
 
-pub polling-values : (s : List ℕ) (at : ℕ) → ltb 2 (getD s (at + 2) 0) ≡ false → isOneOf timeSlots (getD s (at + 3) 0) ≡ true
+pub polling-values : (s : List ℕ) (at : ℕ) → ltb 2 (getD s (at + 2) 0) ≡ false → isTimeSlots (getD s (at + 3) 0) ≡ true
     → readValues polling (drop at s)
     ≡ taken (endFields (wordOf (getD s (at + 1) 0) (getD s at 0)) 0 (getD s (at + 2) 0) (getD s (at + 3) 0) (zeros 16)) (drop (at + 4) s)
 unfolding readValues refuseIf

@@ -1,9 +1,7 @@
 -- The class table by its rule: it is the rule's values in order, which antt computes and compares with the source's table. And how many codes each class has.
 -- Assumes nothing.
-use Prim.Native.Nat.{ℕ, zero, suc, _+_, _<_}
-use native.Mathlib.Nat.{add-zero, zero-add}
-use native.Mathlib.Omega.{arith}
-use mathlib.Core.Path.{_≡_, refl, sym, ap, _∙_}
+use Prim.Native.Nat.{ℕ, _+_, _<_}
+use mathlib.Core.Path.{_≡_, refl, ap, _∙_}
 use mathlib.Core.Bool.{cond}
 use mathlib.Core.List.{List, [], _∷_}
 use lib.ListN.{getD}
@@ -12,19 +10,7 @@ use borrow.Author.Tests.{ne-eqb}
 use Rattle.felica_format.specs.declared.classes.Class.{Class}
 use Rattle.felica_format.specs.declared.classes.Class.the-variants.{Plain, Secure, Unknown}
 use Rattle.felica_format.specs.Layout.{plainRows, secureRows, has, classOf}
-
--- the rule's values at i, i + 1, .., n of them
-unfoldable pub tableFrom : (ℕ → ℕ) → ℕ → ℕ → List ℕ
-tableFrom rule i zero = []
-tableFrom rule i (suc n) = rule i ∷ tableFrom rule (suc i) n
-
-entry-from : (rule : ℕ → ℕ) (n i k : ℕ) → k < n → getD (tableFrom rule i n) k 0 ≡ rule (i + k)
-unfolding tableFrom
-entry-from rule zero i k h = absurd (omega arith)
-entry-from rule (suc n) i zero h = ap rule (sym (add-zero i))
-entry-from rule (suc n) i (suc k) h =
-    let e : suc i + k ≡ i + suc k = omega arith in
-    entry-from rule n (suc i) k (omega arith) ∙ ap rule e
+use Rattle.felica_format.proofs.Tables.{tableFrom, entry}
 
 classByte : Class → ℕ
 classByte Unknown = 0
@@ -50,8 +36,7 @@ classes = tableFrom (λ code. classByte (classOf code)) 0 256
 pub class-at : (code : ℕ) → code < 256 → byteClass (getD classes code 0) ≡ classOf code
 unfolding classes
 class-at code h =
-    ap byteClass (entry-from (λ k. classByte (classOf k)) 256 0 code h ∙ ap (λ (k : ℕ). classByte (classOf k)) (zero-add code))
-    ∙ byteClass-classByte (classOf code)
+    ap byteClass (entry (λ k. classByte (classOf k)) 0 256 code h) ∙ byteClass-classByte (classOf code)
 
 -- how often a number stands in a table
 unfoldable pub count : ℕ → List ℕ → ℕ

@@ -35,7 +35,7 @@ answer-gives : (code : ℕ) (m : Step Command) (c : Command) → answerOf code m
 answer-gives code (taken d rest) c e = (rest, cc)
 answer-gives code (refuse n) c e = absurd (not-given e)
 
-plain-gives : (k : Class) (code : ℕ) (s : List ℕ) (c : Command) → readPlainAs k code s ≡ gives c
+pub plain-gives : (k : Class) (code : ℕ) (s : List ℕ) (c : Command) → readPlainAs k code s ≡ gives c
     → (k ≡ Plain) × (rest : List ℕ) × (readBody code (layoutOf code) s ≡ taken c rest)
 plain-gives Plain code s c e = let a = answer-gives code (readBody code (layoutOf code) s) c e in (refl, a .0, a .1)
 plain-gives Secure code s c e = absurd (not-given e)

@@ -1,20 +1,20 @@
 -- The laws of the fixed bytes that end a body, and of what stands behind them.
 -- Assumes nothing.
-use Prim.Native.Nat.{ℕ, zero, suc, _+_, _/_, _%_, _-_, _≤_, _<_}
+use Prim.Native.Nat.{ℕ, _+_, _/_, _%_, _-_, _≤_, _<_}
 use native.Mathlib.Omega.{arith}
 use mathlib.Core.Path.{_≡_, refl, sym, ap, _∙_, subst₂}
-use mathlib.Core.Bool.{true, false}
-use mathlib.Core.List.{List, [], _∷_, _++_, append-nil}
+use mathlib.Core.Bool.{Bool, true, false}
+use mathlib.Core.List.{List, [], _++_, append-nil}
 use lib.ListN.{length, getD, take, drop, length-append, length-replicate, take-append-drop}
 use lib.Seq.{take-at, drop-at, length-take-le}
-use borrow.Author.Tests.{ltb-true, ltb-false, eqb-true, not-false, lt-ltb, le-ltb, eq-eqb}
-use Rattle.felica_format.specs.Basic.{_and_, Bytes, isOneOf, zeros, wordOf, wordAt, taken, refuseIf}
+use borrow.Author.Tests.{ltb-true, ltb-false, leb-true, eqb-true, not-false, lt-ltb, le-ltb, le-leb, eq-eqb}
+use Rattle.felica_format.specs.Basic.{_and_, Bytes, zeros, wordOf, wordAt, taken, refuseIf}
 use Rattle.felica_format.specs.Command.{EndFields, endFields}
 use Rattle.felica_format.specs.Layout.{Ending, bytes, word, words, reserved, polling, parameter, Behind, nothing, ignoredBytes, aPackage}
-use Rattle.felica_format.specs.Read.{sizeOf, timeSlots, zeroAt, readValues, tooLong, readEnding, readPackage}
+use Rattle.felica_format.specs.Read.{sizeOf, isTimeSlots, zeroAt, readValues, tooLong, readEnding, readPackage}
 use Rattle.felica_format.specs.Write.{endingBytes, packageBytes}
 use Rattle.felica_format.specs.Writable.{Ranges, ranges, rangesOf, endFieldsOk, packageOk, isEmpty}
-use Rattle.felica_format.proofs.Tests.{tests, and-left, and-right, and-both, sameList-true, sameList-refl, isEmpty-true, length-zero, one-below}
+use Rattle.felica_format.proofs.Tests.{tests, and-left, and-right, and-both, sameList-true, sameList-refl, isEmpty-true, length-zero, slots-below}
 use Rattle.felica_format.proofs.Bytes.{allBelow-++, bytes-right, bytes-take, bytes-zeros, byte-below, firsts-drop}
 use Rattle.felica_format.proofs.Steps.{taken-value, taken-rest, refuseIf-passed, refuseIf-taken}
 
@@ -22,23 +22,12 @@ same-taken : {n n′ i i′ o o′ c c′ : ℕ} {b b′ r r′ : List ℕ} → 
     → taken (endFields n i o c b) r ≡ taken (endFields n′ i′ o′ c′ b′) r′
 same-taken p q r s t u = λ k. taken (record { number = p k; index = q k; option = r k; choice = s k; challenge = t k }) (u k)
 
-one-of-zero : (x : ℕ) → isOneOf (0 ∷ []) x ≡ true → x < 1
-one-of-zero x e = one-below 1 (0 ∷ []) x (and-both refl refl) e
-
-one-of-bits : (x : ℕ) → isOneOf (0 ∷ 1 ∷ []) x ≡ true → x < 2
-one-of-bits x e = one-below 2 (0 ∷ 1 ∷ []) x (and-both refl (and-both refl refl)) e
-
-bits-one-of : (x : ℕ) → x ≤ 1 → isOneOf (0 ∷ 1 ∷ []) x ≡ true
-bits-one-of zero h = refl
-bits-one-of (suc zero) h = refl
-bits-one-of (suc (suc x)) h = absurd (omega arith)
-
 -- what its ranges say of each fixed field
 record In (r : Ranges) (f : EndFields) : Type 0 where
   number : f .number < r .numbers
   index : f .index < r .indices
   option : f .option < r .options
-  choice : isOneOf (r .choices) (f .choice) ≡ true
+  choice : r .choices (f .choice) ≡ true
   size : length (f .challenge) ≡ 16
   small : Bytes (f .challenge)
   blank : drop (r .filled) (f .challenge) ≡ zeros (16 - r .filled)
@@ -68,25 +57,25 @@ in-fields r f h =
 values-back : (e : Ending) (f : EndFields) (rest : List ℕ) → sizeOf e ≤ 16 → In (rangesOf e) f → readValues e (endingBytes e f ++ rest) ≡ taken f rest
 unfolding readValues endingBytes refuseIf _and_
 values-back (bytes n) f rest short h =
-    let c = one-of-zero (f .choice) (h .choice) in
+    let c : f .choice ≡ 0 = eqb-true _ _ (h .choice) in
     let len : length (take n (f .challenge)) ≡ n = length-take-le n (f .challenge) (omega (arith, h .size)) in
     same-taken (omega arith) (omega arith) (omega arith) (omega arith)
     (rw (take-at (take n (f .challenge)) rest n len, ← h .blank) (take-append-drop n (f .challenge)))
     (drop-at (take n (f .challenge)) rest n len)
 values-back word f rest short h =
-    let c = one-of-zero (f .choice) (h .choice) in
+    let c : f .choice ≡ 0 = eqb-true _ _ (h .choice) in
     same-taken (omega arith) (omega arith) (omega arith) (omega arith) (sym (h .blank)) refl
 values-back words f rest short h =
-    let c = one-of-zero (f .choice) (h .choice) in
+    let c : f .choice ≡ 0 = eqb-true _ _ (h .choice) in
     same-taken (omega arith) (omega arith) (omega arith) (omega arith) (sym (h .blank)) refl
 values-back reserved f rest short h =
-    let c = one-of-zero (f .choice) (h .choice) in
+    let c : f .choice ≡ 0 = eqb-true _ _ (h .choice) in
     same-taken (omega arith) (omega arith) (omega arith) (omega arith) (sym (h .blank)) refl
 values-back polling f rest short h =
     rw (le-ltb 2 (f .option) (omega arith), h .choice)
     (same-taken (omega arith) (omega arith) refl refl (sym (h .blank)) refl)
 values-back parameter f rest short h =
-    let c = one-of-bits (f .choice) (h .choice) in
+    let c : f .choice ≤ 1 = leb-true _ _ (h .choice) in
     rw (le-ltb 1 (f .option) (omega arith), le-ltb 1 (f .choice) (omega arith))
     (same-taken (omega arith) (omega arith) refl refl (sym (h .blank)) refl)
 
@@ -106,10 +95,10 @@ values-small word f h = and-both (omega tests) (and-both (omega tests) refl)
 values-small words f h = and-both (omega tests) (and-both (omega tests) (and-both (omega tests) (and-both (omega tests) refl)))
 values-small reserved f h = bytes-zeros 2
 values-small polling f h =
-    let c = one-below 16 timeSlots (f .choice) (and-both refl (and-both refl (and-both refl (and-both refl (and-both refl refl))))) (h .choice) in
+    let c = slots-below (f .choice) (h .choice) in
     and-both (omega tests) (and-both (omega tests) (and-both (omega tests) (and-both (omega tests) refl)))
 values-small parameter f h =
-    let c = one-of-bits (f .choice) (h .choice) in
+    let c : f .choice ≤ 1 = leb-true _ _ (h .choice) in
     and-both refl (and-both refl (and-both refl (and-both refl (and-both (omega tests) (and-both (omega tests) (bytes-zeros 2))))))
 
 -- what was read
@@ -120,7 +109,7 @@ values-as : (e : Ending) (s : List ℕ) {f g : EndFields} {r t : List ℕ} → t
 values-as e s q h = subst₂ (λ (x : EndFields) (y : List ℕ). Values e s x y) (taken-value q) (taken-rest q) h
 
 -- no challenge
-in-blank : {n i o c ns is os : ℕ} {cs : List ℕ} → n < ns → i < is → o < os → isOneOf cs c ≡ true → In (ranges ns is os cs 0) (endFields n i o c (zeros 16))
+in-blank : {n i o c ns is os : ℕ} {cs : ℕ → Bool} → n < ns → i < is → o < os → cs c ≡ true → In (ranges ns is os cs 0) (endFields n i o c (zeros 16))
 in-blank p q r t = record { number = p; index = q; option = r; choice = t; size = refl; small = bytes-zeros 16; blank = refl }
 
 values-only : (e : Ending) (s : List ℕ) (f : EndFields) (rest : List ℕ) → sizeOf e ≤ 16 → sizeOf e ≤ length s → Bytes s → readValues e s ≡ taken f rest → Values e s f rest
@@ -165,7 +154,7 @@ values-only reserved s f rest short enough small r =
 values-only polling s f rest short enough small r =
     let o : getD s 2 0 ≤ 2 = ltb-false _ _ (refuseIf-passed _ _ _ r) in
     let r₁ = refuseIf-taken _ _ _ r in
-    let c : isOneOf timeSlots (getD s 3 0) ≡ true = not-false _ (refuseIf-passed _ _ _ r₁) in
+    let c : isTimeSlots (getD s 3 0) ≡ true = not-false _ (refuseIf-passed _ _ _ r₁) in
     let a = byte-below 0 s small in
     let b = byte-below 1 s small in
     let low : wordOf (getD s 1 0) (getD s 0 0) % 256 ≡ getD s 1 0 = omega arith in
@@ -189,7 +178,7 @@ values-only parameter s f rest short enough small r =
     let d6 : getD s 6 0 ≡ 0 = eqb-true _ _ (and-left _ _ y) in
     let d7 : getD s 7 0 ≡ 0 = eqb-true _ _ (and-left _ _ (and-right _ _ y)) in
     values-as parameter s (refuseIf-taken _ _ _ r₃)
-    (in-blank (omega arith) (omega arith) (omega tests) (bits-one-of _ c), rw (d0, d1, d2, d3, d6, d7) at (firsts-drop 8 s enough))
+    (in-blank (omega arith) (omega arith) (omega tests) (le-leb _ _ c), rw (d0, d1, d2, d3, d6, d7) at (firsts-drop 8 s enough))
 
 -- What may be left behind a body: bytes where they are ignored, else nothing.
 unfoldable pub Left : Behind → List ℕ → Type 0

@@ -4,12 +4,12 @@ use mathlib.Core.Path.{refl}
 use Rattle.felica_format.specs.Basic.{_and_, bind, refuseIf}
 use Rattle.felica_format.specs.Layout.{plainRows, secureRows, has, classOf, layoutIn, layoutOf}
 use Rattle.felica_format.specs.Read.{readIdm, readSelector, readCount, wordsOf, readWords, readCodes, readShort, readLong, readElement, readEach}
-use Rattle.felica_format.specs.Read.{readElements, readData, readValues, readEnding, readPackage, readBody, readPayload, readFrame, readSecure}
+use Rattle.felica_format.specs.Read.{readElements, readData, isTimeSlots, readValues, readEnding, readPackage, readBody, readPayload, readFrame, readSecure}
 use Rattle.felica_format.specs.Examples.{AllAnswered, starred, slips, everyCode}
 
 -- opens all that reading is made of
 reading : Unit {0}
-unfolding _and_ bind refuseIf readFrame readPayload readSecure readBody readIdm readSelector readCodes readCount readWords wordsOf readElements readEach readElement readShort readLong readData readEnding readValues readPackage classOf layoutOf has layoutIn plainRows secureRows
+unfolding _and_ bind refuseIf readFrame readPayload readSecure readBody readIdm readSelector readCodes readCount readWords wordsOf readElements readEach readElement readShort readLong readData readEnding readValues isTimeSlots readPackage classOf layoutOf has layoutIn plainRows secureRows
 reading = tt
 
 pub starred-rows : AllAnswered starred

@@ -9,6 +9,7 @@ use lib.ListN.{length}
 use lib.Dec.{eqb}
 use borrow.Author.Tests.{ltb-true, ltb-false, leb-true, leb-false, eqb-true, lt-ltb, le-ltb, le-leb, lt-leb, eq-eqb}
 use Rattle.felica_format.specs.Basic.{_and_, allBelow, isOneOf}
+use Rattle.felica_format.specs.Read.{isTimeSlots}
 use Rattle.felica_format.specs.Writable.{sameList, isEmpty}
 
 -- `omega tests` reads tests on numbers among the hypotheses, and proves one
@@ -66,3 +67,7 @@ one-below k (y ∷ ys) x small e = go (eqb x y) refl e (one-below k ys x (and-ri
     go : (b : Bool) → eqb x y ≡ b → (b || isOneOf ys x) ≡ true → (isOneOf ys x ≡ true → x < k) → x < k
     go true h e later = let below : y < k = ltb-true _ _ (and-left _ _ small) in omega tests
     go false h e later = later e
+
+pub slots-below : (x : ℕ) → isTimeSlots x ≡ true → x < 16
+unfolding isTimeSlots
+slots-below x e = ltb-true _ _ (and-left _ _ e)

@@ -8,4 +8,5 @@ pub mod Write
 pub mod Writable
 pub mod Demand3
 pub mod Grounds
+pub mod Slots
 pub mod Examples

@@ -1,15 +1,16 @@
 -- Reading: each part of a layout is one step, which takes its bytes off the front or refuses on a ground of document 01's table.
 -- A part that the layout lacks takes nothing and gives zero or empty. "Checks follow field order, count before list".
 -- Assumes nothing.
-use Prim.Native.Nat.{ℕ, zero, suc, _-_, _*_, _/_, _%_}
+use Prim.Native.Nat.{ℕ, zero, suc, _+_, _-_, _*_, _/_, _%_}
 use mathlib.Core.Bool.{Bool, true, false, not, _||_, cond}
 use mathlib.Core.List.{List, [], _∷_, _++_}
 use mathlib.Core.Option.{Option, none, some}
 use lib.ListN.{length, getD, take, drop}
 use lib.Dec.{ltb, eqb}
+use lib.Bits.{bitAnd}
 use Rattle.felica_format.specs.declared.classes.Class.{Class}
 use Rattle.felica_format.specs.declared.classes.Class.the-variants.{Plain, Secure, Unknown}
-use Rattle.felica_format.specs.Basic.{_and_, isOneOf, zeros, wordOf, wordAt, Step, taken, refuse, bind, refuseIf}
+use Rattle.felica_format.specs.Basic.{_and_, zeros, wordOf, wordAt, Step, taken, refuse, bind, refuseIf}
 use Rattle.felica_format.specs.Command.{EndFields, endFields, Command, Element, commandOf}
 use Rattle.felica_format.specs.Layout.{Selector, noSelector, typeByte, anyByte, Codes, noCodes, _to_, Ending, bytes, word, words, reserved}
 use Rattle.felica_format.specs.Layout.{polling, parameter, Behind, nothing, ignoredBytes, aPackage, Layout, classOf, layoutOf}
@@ -91,9 +92,9 @@ sizeOf reserved = 2
 sizeOf polling = 4
 sizeOf parameter = 8
 
--- "The time slot values of Polling are 00, 01, 03, 07, 0F"
-abbrev pub timeSlots : List ℕ
-timeSlots = 0x00 ∷ 0x01 ∷ 0x03 ∷ 0x07 ∷ 0x0F ∷ []
+-- The time slots of Polling: "a value below 16 that shares no set bit with its successor". Slots.antt says which values these are.
+unfoldable pub isTimeSlots : ℕ → Bool
+isTimeSlots x = ltb x 16 and eqb (bitAnd x (x + 1)) 0
 
 -- the n bytes at a place are 00
 abbrev pub zeroAt : ℕ → List ℕ → ℕ → Bool
@@ -111,7 +112,7 @@ readValues reserved s =
     (taken (endFields 0 0 0 0 (zeros 16)) (drop 2 s))
 readValues polling s =
     refuseIf (ltb 2 (getD s 2 0)) 19
-    (refuseIf (not (isOneOf timeSlots (getD s 3 0))) 20
+    (refuseIf (not (isTimeSlots (getD s 3 0))) 20
     (taken (endFields (wordOf (getD s 1 0) (getD s 0 0)) 0 (getD s 2 0) (getD s 3 0) (zeros 16)) (drop 4 s)))
 readValues parameter s =
     refuseIf (not (zeroAt 4 s 0)) 18

@@ -9,11 +9,11 @@ use lib.ListN.{length, drop}
 use lib.Dec.{ltb, leb, eqb}
 use Rattle.felica_format.specs.declared.classes.Class.{Class}
 use Rattle.felica_format.specs.declared.classes.Class.the-variants.{Plain, Secure, Unknown}
-use Rattle.felica_format.specs.Basic.{_and_, zeros, allBelow, isOneOf}
+use Rattle.felica_format.specs.Basic.{_and_, zeros, allBelow}
 use Rattle.felica_format.specs.Command.{EndFields, Command, Element, elementsOf, endFieldsOf}
 use Rattle.felica_format.specs.Layout.{Selector, noSelector, typeByte, anyByte, Codes, noCodes, _to_, Ending, bytes, word, words, reserved}
 use Rattle.felica_format.specs.Layout.{polling, parameter, Behind, nothing, ignoredBytes, aPackage, Layout, classOf, layoutOf}
-use Rattle.felica_format.specs.Read.{timeSlots}
+use Rattle.felica_format.specs.Read.{isTimeSlots}
 use Rattle.felica_format.specs.Write.{frameOf, secureOf}
 
 abbrev pub sameList : List ℕ → List ℕ → Bool
@@ -65,33 +65,36 @@ unfoldable pub dataOk : Bool → ℕ → List ℕ → Bool
 dataOk false m bs = isEmpty bs
 dataOk true m bs = areBytes (16 * m) bs
 
--- The ranges of the fixed fields: number, index and option below a bound, choice one of a list, and a challenge
+-- The ranges of the fixed fields: number, index and option below a bound, choice one that passes a test, and a challenge
 -- whose bytes behind the first `filled` are 00.
 pub record Ranges : Type 0 where
   pub numbers : ℕ
   pub indices : ℕ
   pub options : ℕ
-  pub choices : List ℕ
+  pub choices : ℕ → Bool
   pub filled : ℕ
 
-abbrev pub ranges : ℕ → ℕ → ℕ → List ℕ → ℕ → Ranges
+abbrev pub ranges : ℕ → ℕ → ℕ → (ℕ → Bool) → ℕ → Ranges
 ranges n i o c b = record { numbers = n; indices = i; options = o; choices = c; filled = b }
 
--- a field that the layout lacks is 0: below 1, or one of the list of 0
+abbrev pub isZero : ℕ → Bool
+isZero x = eqb x 0
+
+-- a field that the layout lacks is 0: below 1, or tested for it
 abbrev pub rangesOf : Ending → Ranges
-rangesOf (bytes n) = ranges 1 1 1 (0 ∷ []) n
-rangesOf word = ranges 65536 1 1 (0 ∷ []) 0
-rangesOf words = ranges 65536 65536 1 (0 ∷ []) 0
-rangesOf reserved = ranges 1 1 1 (0 ∷ []) 0
-rangesOf polling = ranges 65536 1 3 timeSlots 0
-rangesOf parameter = ranges 1 1 2 (0 ∷ 1 ∷ []) 0
+rangesOf (bytes n) = ranges 1 1 1 isZero n
+rangesOf word = ranges 65536 1 1 isZero 0
+rangesOf words = ranges 65536 65536 1 isZero 0
+rangesOf reserved = ranges 1 1 1 isZero 0
+rangesOf polling = ranges 65536 1 3 isTimeSlots 0
+rangesOf parameter = ranges 1 1 2 (λ x. leb x 1) 0
 
 unfoldable pub endFieldsOk : Ranges → EndFields → Bool
 endFieldsOk r f =
     ltb (f .number) (r .numbers)
     and ltb (f .index) (r .indices)
     and ltb (f .option) (r .options)
-    and isOneOf (r .choices) (f .choice)
+    and r .choices (f .choice)
     and areBytes 16 (f .challenge)
     and sameList (drop (r .filled) (f .challenge)) (zeros (16 - r .filled))
 

@@ -4,7 +4,7 @@ ghost use mathlib.Core.Path.{_≡_};
 ghost use lib.Dec.{leb};
 ghost use Rattle.felica_format.specs.Basic.{isOneOf};
 ghost use Rattle.felica_format.specs.Layout.{boundsAt};
-ghost use Rattle.felica_format.specs.Read.{timeSlots};
+ghost use Rattle.felica_format.specs.Read.{isTimeSlots};
 
 pub const IDM_LEN: usize = 8;
 
@@ -170,18 +170,17 @@ pub fn bounds_at(row: usize) -> Bounds
 
 const POLLING_REQUEST_CODES: [u8; 3] = [0x00, 0x01, 0x02];
 
-const POLLING_TIME_SLOTS: [u8; 5] = [0x00, 0x01, 0x03, 0x07, 0x0F];
-
 pub fn is_polling_request_code(value: u8) -> bool
     ensures { λ r. ⌜ r ≡ leb value 2 ⌝ }
 {
     contains(&POLLING_REQUEST_CODES, value)
 }
 
+// A value below 16 that shares no set bit with its successor.
 pub fn is_polling_time_slot(value: u8) -> bool
-    ensures { λ r. ⌜ r ≡ isOneOf timeSlots value ⌝ }
+    ensures { λ r. ⌜ r ≡ isTimeSlots value ⌝ }
 {
-    contains(&POLLING_TIME_SLOTS, value)
+    value < 16 && value & (value + 1) == 0
 }
 
 fn contains(table: &[u8], value: u8) -> bool

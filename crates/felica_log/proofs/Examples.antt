@@ -4,7 +4,7 @@ use mathlib.Core.Path.{refl}
 use Rattle.felica_format.specs.Basic.{_and_, bind, refuseIf}
 use Rattle.felica_format.specs.Layout.{plainRows, secureRows, has, classOf, layoutIn, layoutOf}
 use Rattle.felica_format.specs.Read.{readIdm, readSelector, readCount, wordsOf, readWords, readCodes, readShort, readLong, readElement, readEach}
-use Rattle.felica_format.specs.Read.{readElements, readData, readValues, readEnding, readPackage, readBody, readPayload, readFrame}
+use Rattle.felica_format.specs.Read.{readElements, readData, isTimeSlots, readValues, readEnding, readPackage, readBody, readPayload, readFrame}
 use Rattle.felica_text.specs.Text.{decimalDigits, decimalText}
 use Rattle.felica_line.specs.Line.{marksText, markField, acceptedText, recordLine}
 use Rattle.felica_log.specs.Listing.{front, totalLine, listingFrom, listing}
@@ -12,7 +12,7 @@ use Rattle.felica_log.specs.Examples.{AllSamplesListed, samples}
 
 -- opens all that reading and listing are made of
 reading : Unit {0}
-unfolding _and_ bind refuseIf readFrame readPayload readBody readIdm readSelector readCodes readCount readWords wordsOf readElements readEach readElement readShort readLong readData readEnding readValues readPackage classOf layoutOf has layoutIn plainRows secureRows
+unfolding _and_ bind refuseIf readFrame readPayload readBody readIdm readSelector readCodes readCount readWords wordsOf readElements readEach readElement readShort readLong readData readEnding readValues isTimeSlots readPackage classOf layoutOf has layoutIn plainRows secureRows
 reading = tt
 
 lining : Unit {0}

@@ -3,14 +3,14 @@
 use Prim.Native.Nat.{ℕ, zero, suc, _+_, _-_, _*_, _/_, _%_, _≤_, _<_}
 use native.Mathlib.Omega.{arith}
 use mathlib.Core.Path.{_≡_, refl, sym, ap, _∙_}
-use mathlib.Core.Bool.{Bool, true, false, _||_}
+use mathlib.Core.Bool.{Bool, true, false}
 use mathlib.Core.List.{List, [], _∷_}
 use lib.ListN.{length, getD, drop, length-drop, drop-of-length-le}
 use lib.Seq.{drop-cons}
 use lib.Dec.{ltb, leb, eqb}
-use borrow.Author.Tests.{lt-ltb, le-ltb, lt-leb, eq-eqb, ne-eqb, eqb-true, eqb-false}
+use borrow.Author.Tests.{lt-ltb, le-ltb, eq-eqb, ne-eqb, eqb-true, eqb-false}
 use native.Mathlib.Numerals.{add-one}
-use Rattle.felica_format.specs.Basic.{_and_, allBelow, Bytes, isOneOf, zeros}
+use Rattle.felica_format.specs.Basic.{_and_, allBelow, Bytes, zeros}
 use Rattle.felica_format.specs.Command.{Command, zipElements, elementsOf, endFieldsOf}
 use Rattle.felica_format.specs.Layout.{Layout}
 use Rattle.felica_format.specs.Writable.{sameList, isEmpty, areBytes, idmOk, selectorOk, codesOk, sameLength, eachOk, elementsOk, dataOk}
@@ -163,19 +163,6 @@ at-most x n h = lt-ltb x (suc n) (omega arith)
 
 pub above : (x n : ℕ) → n < x → ltb x (suc n) ≡ false
 above x n h = le-ltb x (suc n) (omega arith)
-
--- the one choice 0, and the choices 0 and 1
-pub one-choice : (x : ℕ) → eqb x 0 ≡ isOneOf (0 ∷ []) x
-one-choice x = go (eqb x 0)
-  where
-    go : (b : Bool) → b ≡ (b || false)
-    go true = refl
-    go false = refl
-
-pub two-choices : (x : ℕ) → leb x 1 ≡ isOneOf (0 ∷ 1 ∷ []) x
-two-choices zero = refl
-two-choices (suc zero) = refl
-two-choices (suc (suc x)) = rw (lt-leb (suc (suc x)) 1 (omega arith), ne-eqb (suc (suc x)) 0 (λ e. omega arith), ne-eqb (suc (suc x)) 1 (λ e. omega arith))
 
 -- the tests of a body, with those of the three lists of a block list in one
 pub tests : (l : Layout) (c : Command)

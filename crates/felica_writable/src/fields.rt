@@ -2,7 +2,7 @@
 ghost use mathlib.Core.Path.{_≡_};
 ghost use Prim.Native.Nat.{suc, _-_};
 ghost use lib.ListN.{length, drop};
-ghost use Rattle.felica_format.specs.Basic.{_and_, allBelow, Bytes, isOneOf, zeros};
+ghost use Rattle.felica_format.specs.Basic.{_and_, allBelow, Bytes, zeros};
 ghost use Rattle.felica_format.specs.Command.{endFields};
 ghost use Rattle.felica_format.specs.Writable.{sameList, areBytes, idmOk, selectorOk, ranges, rangesOf, endFieldsOk};
 ghost use Rattle.felica_layout.specs.Layout.{selectorMeant, endingMeant};
@@ -99,7 +99,7 @@ fn greatest_values(number: u16, index: u16, option: u8, challenge: usize) -> Gre
 
 // Time slots, packet type.
 fn choice_ok(ending: Ending, choice: u8) -> bool
-    ensures { λ r. ⌜ r ≡ isOneOf (rangesOf (endingMeant ending) .choices) choice ⌝ }
+    ensures { λ r. ⌜ r ≡ rangesOf (endingMeant ending) .choices choice ⌝ }
 {
     match ending {
         Ending::Polling => is_polling_time_slot(choice),

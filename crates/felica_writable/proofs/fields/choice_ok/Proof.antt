@@ -1,6 +1,5 @@
 -- `felica_writable::fields::choice_ok` meets its contract.
 -- Assumes nothing.
-use Rattle.felica_writable.proofs.Laws.{one-choice, two-choices}
 use borrow.Author.Needs.{needs}
 use Rattle.felica_writable.proofs.fields.choice_ok.Statement.{statement}
 use Rattle.felica_writable.proofs.fields.choice_ok.Tie as tie
@@ -30,19 +29,19 @@ returns : tie.Need-returns
 returns c = rw (c .before .enum-told .given .1) (c .is-polling-time-slot .ensures)
 
 returns-2 : tie.Need-returns-2
-returns-2 c = rw (c .enum-told2 .given .1) (two-choices (c .before .before .args .choice))
+returns-2 c = rw (c .enum-told2 .given .1)
 
 returns-3 : tie.Need-returns-3
-returns-3 c = rw (c .enum-told3 .given .1) (one-choice (c .before .before .args .choice))
+returns-3 c = rw (c .enum-told3 .given .1)
 
 returns-4 : tie.Need-returns-4
-returns-4 c = rw (c .enum-told4 .given .1) (one-choice (c .before .before .args .choice))
+returns-4 c = rw (c .enum-told4 .given .1)
 
 returns-5 : tie.Need-returns-5
-returns-5 c = rw (c .enum-told5 .given .1) (one-choice (c .before .before .args .choice))
+returns-5 c = rw (c .enum-told5 .given .1)
 
 returns-6 : tie.Need-returns-6
-returns-6 c = rw (c .enum-told6 .given .1) (one-choice (c .before .before .args .choice))
+returns-6 c = rw (c .enum-told6 .given .1)
 
 pub choice-ok-spec : {M : Type 1} → statement M
 choice-ok-spec =
