@@ -1,5 +1,6 @@
 -- `felica_format::constants::is_polling_time_slot` meets its contract: the formula, test by test.
 -- Assumes nothing.
+use native.Mathlib.Omega.{arith}
 use borrow.Author.Needs.{needs}
 use borrow.Author.Tests.{lt-ltb, le-ltb}
 use Rattle.felica_format.specs.Basic.{_and_}
@@ -12,11 +13,11 @@ add-result c = search needs
 
 returns : tie.Need-returns
 unfolding isTimeSlots _and_
-returns c = rw (lt-ltb (c .before .args .value) 16 (c .if1 .taken))
+returns c = rw (lt-ltb (c .before .args .value) 16 (omega arith))
 
 returns-2 : tie.Need-returns-2
 unfolding isTimeSlots _and_
-returns-2 c = rw (le-ltb (c .before .args .value) 16 (c .if1 .left))
+returns-2 c = rw (le-ltb (c .before .args .value) 16 (omega arith))
 
 pub is-polling-time-slot-spec : {M : Type 1} → statement M
 is-polling-time-slot-spec = tie.close (tie.spec add-result returns returns-2)
