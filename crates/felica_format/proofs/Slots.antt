@@ -15,18 +15,18 @@ use Rattle.felica_format.specs.Command.{Command, endFields, commandOf}
 use Rattle.felica_format.specs.Layout.{plainRows, has, classOf, layoutIn, layoutOf, polling, nothing}
 use Rattle.felica_format.specs.Read.{isTimeSlots, readIdm, readSelector, readCodes, readElements, readData, readValues, readEnding, readPackage, readBody}
 use Rattle.felica_format.specs.Read.{gives, refused, readPayload, readFrame}
-use Rattle.felica_format.specs.Slots.{fiveValues, TimeSlotsAre, PollingFrame, PollingFramesAre}
+use Rattle.felica_format.specs.Slots.{timeSlotValues, TimeSlotsAre, PollingFrame, PollingFramesAre}
 use Rattle.felica_format.proofs.Tests.{tests, one-below, slots-below}
 use Rattle.felica_format.proofs.Bytes.{firsts-drop}
 use Rattle.felica_format.proofs.Steps.{bind-taken, refuseIf-passed, refuseIf-taken, not-given}
 use Rattle.felica_format.proofs.Demand3.{plain-gives}
 use Rattle.felica_format.proofs.Tables.{tableFrom, same-below}
 
-five-below : (x : ℕ) → isOneOf fiveValues x ≡ true → x < 16
+values-below : (x : ℕ) → isOneOf timeSlotValues x ≡ true → x < 16
 unfolding _and_
-five-below x e = one-below 16 fiveValues x refl e
+values-below x e = one-below 16 timeSlotValues x refl e
 
-computed : tableFrom isTimeSlots 0 16 ≡ tableFrom (isOneOf fiveValues) 0 16
+computed : tableFrom isTimeSlots 0 16 ≡ tableFrom (isOneOf timeSlotValues) 0 16
 unfolding tableFrom isTimeSlots _and_
 computed = refl
 
@@ -41,11 +41,11 @@ none-from test n x below h = go (test x) refl
 pub time-slots-are : TimeSlotsAre
 time-slots-are x = go (ltb x 16) refl
   where
-    go : (b : Bool) → ltb x 16 ≡ b → isTimeSlots x ≡ isOneOf fiveValues x
-    go true h = same-below isTimeSlots (isOneOf fiveValues) 16 x computed (ltb-true _ _ h)
+    go : (b : Bool) → ltb x 16 ≡ b → isTimeSlots x ≡ isOneOf timeSlotValues x
+    go true h = same-below isTimeSlots (isOneOf timeSlotValues) 16 x computed (ltb-true _ _ h)
     go false h =
         let from : 16 ≤ x = ltb-false _ _ h in
-        none-from isTimeSlots 16 x (slots-below x) from ∙ sym (none-from (isOneOf fiveValues) 16 x (five-below x) from)
+        none-from isTimeSlots 16 x (slots-below x) from ∙ sym (none-from (isOneOf timeSlotValues) 16 x (values-below x) from)
 
 -- ── frames of code 00 ───────────────────────────────────────────────────────
 -- what an accepted body has been tested for

@@ -176,7 +176,7 @@ pub fn is_polling_request_code(value: u8) -> bool
     contains(&POLLING_REQUEST_CODES, value)
 }
 
-// A value below 16 that shares no set bit with its successor.
+// In place of the Rust's POLLING_TIME_SLOTS: a value below 16 that shares no set bit with its successor.
 pub fn is_polling_time_slot(value: u8) -> bool
     ensures { λ r. ⌜ r ≡ isTimeSlots value ⌝ }
 {
