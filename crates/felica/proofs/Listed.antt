@@ -9,7 +9,7 @@ use lib.Seq.{take-append-seam, length-take-le}
 use Rattle.felica_format.specs.Basic.{zeros}
 use Rattle.felica_format.specs.Command.{Command, Element}
 use Rattle.felica_format.specs.Read.{Answer as Reading, gives, refused}
-use Rattle.felica_format.proofs.Steps.{not-given}
+use Rattle.felica_format.proofs.Steps.{not-given, given-is}
 use Rattle.felica_command.specs.Meaning.{codesAt, elementsAt, Fields, fieldsOf, commandIs, answerIs, meaning}
 use Rattle.felica_command.specs.Places.{elementsSize, answerPlaces, placesOf, Inside}
 use Rattle.felica_command.specs.declared.command.Answer.{Answer}
@@ -26,9 +26,6 @@ front-is : (list held rest : List ℕ) (n : ℕ) → length list ≡ n → take 
 front-is list held rest n e =
     ap (λ (k : ℕ). take k (front list held ++ rest)) (sym e) ∙ ap (take (length list)) (append-assoc list (drop (length list) held) rest)
     ∙ take-append-seam list (drop (length list) held ++ rest)
-
-gives-same : {c d : Command} → gives c ≡ gives d → c ≡ d
-gives-same e = cc
 
 same-lists : (code : ℕ) {a b n p m a′ b′ n′ p′ m′ : List ℕ} → a ≡ a′ → b ≡ b′ → n ≡ n′ → p ≡ p′ → m ≡ m′
     → listsText code a b n p m ≡ listsText code a′ b′ n′ p′ m′
@@ -67,7 +64,7 @@ module _ (s : List ℕ) (b rest : Buffers) where
           (after .places ++ rest .places) (after .modes ++ rest .modes)
           ≡ listLine (listedIf room c b .answer)
       go true e =
-          let same = gives-same (ap (λ (o : Outcome). o .answer) e) in
+          let same = given-is (ap (λ (o : Outcome). o .answer) e) in
           fields-line (fieldsOf kind) idm challenge (inside .2) after
           (ap (λ (o : Outcome). o .buffers) e ∙ ap (λ (x : Command). fronts (listsOf x) b) (sym same))
           ∙ ap (λ (x : Command). listLine (gives x)) same

@@ -35,11 +35,23 @@ answer-gives : (code : ℕ) (m : Step Command) (c : Command) → answerOf code m
 answer-gives code (taken d rest) c e = (rest, cc)
 answer-gives code (refuse n) c e = absurd (not-given e)
 
-pub plain-gives : (k : Class) (code : ℕ) (s : List ℕ) (c : Command) → readPlainAs k code s ≡ gives c
+plain-gives : (k : Class) (code : ℕ) (s : List ℕ) (c : Command) → readPlainAs k code s ≡ gives c
     → (k ≡ Plain) × (rest : List ℕ) × (readBody code (layoutOf code) s ≡ taken c rest)
 plain-gives Plain code s c e = let a = answer-gives code (readBody code (layoutOf code) s) c e in (refl, a .0, a .1)
 plain-gives Secure code s c e = absurd (not-given e)
 plain-gives Unknown code s c e = absurd (not-given e)
+
+-- the length byte is right, the code plain, and its body was taken
+abbrev pub Opened : ℕ → ℕ → List ℕ → Command → Type 0
+Opened n code body c = (n ≡ suc (suc (length body))) × (classOf code ≡ Plain) × (rest : List ℕ) × (readBody code (layoutOf code) body ≡ taken c rest)
+
+pub frame-gives : (n code : ℕ) (body : List ℕ) (c : Command) → readFrame (n ∷ code ∷ body) ≡ gives c → Opened n code body c
+unfolding readFrame readPayload
+frame-gives n code body c e = go (eqb n (suc (suc (length body)))) refl e
+  where
+    go : (b : Bool) → eqb n (suc (suc (length body))) ≡ b → cond b (readPayload (code ∷ body)) (refused 2 none) ≡ gives c → Opened n code body c
+    go false size e = absurd (not-given e)
+    go true size e = let g = plain-gives (classOf code) code body c e in (eqb-true _ _ size, g .0, g .1, g .2)
 
 secure-gives : (k : Class) (code : ℕ) (s : List ℕ) (c : Command) → readSecureAs k code s ≡ gives c
     → (k ≡ Secure) × (rest : List ℕ) × (readBody code (layoutOf code) s ≡ taken c rest)
@@ -98,19 +110,15 @@ framed-by n code body c size small a =
 framed : (s : List ℕ) (c : Command) → FrameGives s c → Framed s c
 unfolding readFrame readPayload
 framed [] c (small, e) = absurd (not-given e)
-framed (n ∷ payload) c (small, e) = go payload (and-right _ _ small) (eqb n (suc (length payload))) refl e
+framed (n ∷ []) c (small, e) = absurd (empty (eqb n 1) e)
   where
-    below : n < 256
-    below = head-below 256 n payload small
-
-    go : (payload : List ℕ) → Bytes payload → (b : Bool) → eqb n (suc (length payload)) ≡ b
-        → cond b (readPayload payload) (refused 2 none) ≡ gives c → Framed (n ∷ payload) c
-    go payload small false size e = absurd (not-given e)
-    go [] small true size e = absurd (not-given e)
-    go (code ∷ body) small true size e =
-        let g = plain-gives (classOf code) code body c e in
-        framed-by n code body c (eqb-true _ _ size) below
-        (accepted Plain code body c (g .1) (g .0) (plain-layout code (g .0)) (and-right _ _ small) (g .2))
+    empty : (b : Bool) → cond b (refused 3 none) (refused 2 none) ≡ gives c → ⊥
+    empty true e = not-given e
+    empty false e = not-given e
+framed (n ∷ code ∷ body) c (small, e) =
+    let (size, class, rest, read) = frame-gives n code body c e in
+    framed-by n code body c size (head-below 256 n (code ∷ body) small)
+    (accepted Plain code body c rest class (plain-layout code class) (and-right _ _ (and-right _ _ small)) read)
 
 frame-back : (forms : Forms) (c : Command) → classOf (c .code) ≡ Plain → bodyOk (layoutOf (c .code)) c ≡ true → length (frameOf forms c) ≤ 255 → FrameGives (frameOf forms c) c
 unfolding readFrame readPayload frameOf

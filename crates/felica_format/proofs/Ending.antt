@@ -1,11 +1,13 @@
 -- The laws of the fixed bytes that end a body, and of what stands behind them.
 -- Assumes nothing.
 use Prim.Native.Nat.{ℕ, _+_, _/_, _%_, _-_, _≤_, _<_}
+use native.Mathlib.Nat.{lt-of-lt-of-le}
 use native.Mathlib.Omega.{arith}
 use mathlib.Core.Path.{_≡_, refl, sym, ap, _∙_, subst₂}
 use mathlib.Core.Bool.{Bool, true, false}
 use mathlib.Core.List.{List, [], _++_, append-nil}
 use lib.ListN.{length, getD, take, drop, length-append, length-replicate, take-append-drop}
+use lib.Dec.{lit≤}
 use lib.Seq.{take-at, drop-at, length-take-le}
 use borrow.Author.Tests.{ltb-true, ltb-false, leb-true, eqb-true, not-false, lt-ltb, le-ltb, le-leb, eq-eqb}
 use Rattle.felica_format.specs.Basic.{_and_, Bytes, zeros, wordOf, wordAt, taken, refuseIf}
@@ -14,7 +16,7 @@ use Rattle.felica_format.specs.Layout.{Ending, bytes, word, words, reser
 use Rattle.felica_format.specs.Read.{sizeOf, isTimeSlots, zeroAt, readValues, tooLong, readEnding, readPackage}
 use Rattle.felica_format.specs.Write.{endingBytes, packageBytes}
 use Rattle.felica_format.specs.Writable.{Ranges, ranges, rangesOf, endFieldsOk, packageOk, isEmpty}
-use Rattle.felica_format.proofs.Tests.{tests, and-left, and-right, and-both, sameList-true, sameList-refl, isEmpty-true, length-zero, slots-below}
+use Rattle.felica_format.proofs.Tests.{tests, and-left, and-right, and-both, sameList-true, sameList-refl, isEmpty-true, length-zero}
 use Rattle.felica_format.proofs.Bytes.{allBelow-++, bytes-right, bytes-take, bytes-zeros, byte-below, firsts-drop}
 use Rattle.felica_format.proofs.Steps.{taken-value, taken-rest, refuseIf-passed, refuseIf-taken}
 
@@ -88,6 +90,10 @@ ending-length reserved f short h = refl
 ending-length polling f short h = refl
 ending-length parameter f short h = refl
 
+slots-byte : (x : ℕ) → isTimeSlots x ≡ true → x < 256
+unfolding isTimeSlots
+slots-byte x e = lt-of-lt-of-le (ltb-true _ _ (and-left _ _ e)) (lit≤ tt)
+
 values-small : (e : Ending) (f : EndFields) → In (rangesOf e) f → Bytes (endingBytes e f)
 unfolding endingBytes
 values-small (bytes n) f h = bytes-take n (f .challenge) (h .small)
@@ -95,7 +101,7 @@ values-small word f h = and-both (omega tests) (and-both (omega tests) refl)
 values-small words f h = and-both (omega tests) (and-both (omega tests) (and-both (omega tests) (and-both (omega tests) refl)))
 values-small reserved f h = bytes-zeros 2
 values-small polling f h =
-    let c = slots-below (f .choice) (h .choice) in
+    let c = slots-byte (f .choice) (h .choice) in
     and-both (omega tests) (and-both (omega tests) (and-both (omega tests) (and-both (omega tests) refl)))
 values-small parameter f h =
     let c : f .choice ≤ 1 = leb-true _ _ (h .choice) in

@@ -1,51 +1,45 @@
 -- The time slots: the statements of specs/Slots.antt, each proved under its name. Below 16 the formula and the list are computed, from there up neither
 -- takes a number.
 -- Assumes nothing.
-use Prim.Native.Nat.{ℕ, suc, _≤_, _<_}
+use Prim.Native.Nat.{ℕ, _≤_}
 use native.Mathlib.Omega.{arith}
-use mathlib.Core.Path.{_≡_, refl, sym, _∙_}
-use mathlib.Core.Bool.{Bool, true, false, cond}
+use mathlib.Core.Path.{_≡_, refl, sym, ap, _∙_}
+use mathlib.Core.Bool.{Bool, true, false}
 use mathlib.Core.List.{List, [], _∷_}
-use mathlib.Core.Option.{none}
 use lib.ListN.{length, getD, drop, drop-of-length-le}
-use lib.Dec.{ltb, eqb}
+use lib.Dec.{ltb}
 use borrow.Author.Tests.{ltb-true, ltb-false, not-false, le-ltb}
-use Rattle.felica_format.specs.Basic.{_and_, isOneOf, zeros, wordOf, taken, bind, refuseIf}
-use Rattle.felica_format.specs.Command.{Command, endFields, commandOf}
+use Rattle.felica_format.specs.Basic.{_and_, isOneOf, taken, bind, refuseIf}
+use Rattle.felica_format.specs.Command.{Command}
 use Rattle.felica_format.specs.Layout.{plainRows, has, classOf, layoutIn, layoutOf, polling, nothing}
 use Rattle.felica_format.specs.Read.{isTimeSlots, readIdm, readSelector, readCodes, readElements, readData, readValues, readEnding, readPackage, readBody}
-use Rattle.felica_format.specs.Read.{gives, refused, readPayload, readFrame}
-use Rattle.felica_format.specs.Slots.{timeSlotValues, TimeSlotsAre, PollingFrame, PollingFramesAre}
-use Rattle.felica_format.proofs.Tests.{tests, one-below, slots-below}
+use Rattle.felica_format.specs.Read.{gives, readPayload, readFrame}
+use Rattle.felica_format.specs.Slots.{timeSlotValues, TimeSlotsAre, pollingOf, PollingFrame, PollingFramesAre}
+use Rattle.felica_format.proofs.Tests.{none-of}
 use Rattle.felica_format.proofs.Bytes.{firsts-drop}
-use Rattle.felica_format.proofs.Steps.{bind-taken, refuseIf-passed, refuseIf-taken, not-given}
-use Rattle.felica_format.proofs.Demand3.{plain-gives}
+use Rattle.felica_format.proofs.Steps.{bind-taken, refuseIf-passed, refuseIf-taken, given-is}
+use Rattle.felica_format.proofs.Demand3.{frame-gives}
 use Rattle.felica_format.proofs.Tables.{tableFrom, same-below}
-
-values-below : (x : ℕ) → isOneOf timeSlotValues x ≡ true → x < 16
-unfolding _and_
-values-below x e = one-below 16 timeSlotValues x refl e
 
 computed : tableFrom isTimeSlots 0 16 ≡ tableFrom (isOneOf timeSlotValues) 0 16
 unfolding tableFrom isTimeSlots _and_
 computed = refl
 
--- a test that only numbers below n pass
-none-from : (test : ℕ → Bool) (n x : ℕ) → (test x ≡ true → x < n) → n ≤ x → test x ≡ false
-none-from test n x below h = go (test x) refl
-  where
-    go : (b : Bool) → test x ≡ b → test x ≡ false
-    go true e = let less = below e in absurd (omega arith)
-    go false e = e
+-- from 16 up the formula takes nothing
+none-from-16 : (x : ℕ) → 16 ≤ x → isTimeSlots x ≡ false
+unfolding isTimeSlots _and_
+none-from-16 x h = rw (le-ltb x 16 h)
+
+none-listed : (x : ℕ) → 16 ≤ x → isOneOf timeSlotValues x ≡ false
+unfolding _and_
+none-listed x h = none-of 16 timeSlotValues x refl h
 
 pub time-slots-are : TimeSlotsAre
 time-slots-are x = go (ltb x 16) refl
   where
     go : (b : Bool) → ltb x 16 ≡ b → isTimeSlots x ≡ isOneOf timeSlotValues x
     go true h = same-below isTimeSlots (isOneOf timeSlotValues) 16 x computed (ltb-true _ _ h)
-    go false h =
-        let from : 16 ≤ x = ltb-false _ _ h in
-        none-from isTimeSlots 16 x (slots-below x) from ∙ sym (none-from (isOneOf timeSlotValues) 16 x (values-below x) from)
+    go false h = let from : 16 ≤ x = ltb-false _ _ h in none-from-16 x from ∙ sym (none-listed x from)
 
 -- ── frames of code 00 ───────────────────────────────────────────────────────
 -- what an accepted body has been tested for
@@ -66,26 +60,23 @@ four-bytes body e =
     let none : drop 4 body ≡ [] = drop-of-length-le body {i = 4} (omega arith) in
     rw none at (firsts-drop 4 body (omega arith))
 
-frame-passes : (n : ℕ) (body : List ℕ) (c : Command) → readFrame (n ∷ 0x00 ∷ body) ≡ gives c → PollingFrame (n ∷ 0x00 ∷ body)
-unfolding readFrame readPayload classOf has plainRows
-frame-passes n body c e = go (eqb n (suc (suc (length body)))) refl e
-  where
-    go : (b : Bool) → eqb n (suc (suc (length body))) ≡ b → cond b (readPayload (0x00 ∷ body)) (refused 2 none) ≡ gives c → PollingFrame (n ∷ 0x00 ∷ body)
-    go false size e = absurd (not-given e)
-    go true size e =
-        let g = plain-gives (classOf 0x00) 0x00 body c e in
-        let (long, request, slots) = body-passes body c (g .1) (g .2) in
-        let six : n ≡ 6 = omega tests in
-        (getD body 0 0, getD body 1 0, getD body 2 0, getD body 3 0, (λ i. six i ∷ 0x00 ∷ four-bytes body long i), request, sym (time-slots-are (getD body 3 0)) ∙ slots)
-
-passes-frame : (n : ℕ) (body : List ℕ) → PollingFrame (n ∷ 0x00 ∷ body) → (c : Command) × (readFrame (n ∷ 0x00 ∷ body) ≡ gives c)
+polling-read : (high low request slots : ℕ) → request ≤ 2 → isOneOf timeSlotValues slots ≡ true
+    → readFrame (0x06 ∷ 0x00 ∷ high ∷ low ∷ request ∷ slots ∷ []) ≡ gives (pollingOf high low request slots)
 unfolding readFrame readPayload readBody readIdm readSelector readCodes readElements readData readEnding readValues readPackage bind refuseIf classOf layoutOf has layoutIn plainRows
-passes-frame n body (high, low, request, slots, is, small, listed) =
-    let six : n ≡ 6 = cc in
-    let four : body ≡ high ∷ low ∷ request ∷ slots ∷ [] = cc in (
-      commandOf 0x00 (zeros 8) 0 [] [] [] [] (endFields (wordOf low high) 0 request slots (zeros 16)) [],
-      rw (six, four, le-ltb 2 request small, time-slots-are slots ∙ listed),
-    )
+polling-read high low request slots small listed = rw (le-ltb 2 request small, time-slots-are slots ∙ listed)
 
 pub polling-frames-are : PollingFramesAre
-polling-frames-are n body = ((λ (c, e). frame-passes n body c e), passes-frame n body)
+polling-frames-are n body c = (only, back)
+  where
+    only : readFrame (n ∷ 0x00 ∷ body) ≡ gives c → PollingFrame (n ∷ 0x00 ∷ body) c
+    only e =
+        let (size, class, rest, read) = frame-gives n 0x00 body c e in
+        let (long, small, slots) = body-passes body c rest read in
+        let six : n ≡ 6 = omega arith in
+        let is : n ∷ 0x00 ∷ body ≡ 0x06 ∷ 0x00 ∷ getD body 0 0 ∷ getD body 1 0 ∷ getD body 2 0 ∷ getD body 3 0 ∷ [] = λ i. six i ∷ 0x00 ∷ four-bytes body long i in
+        let listed = sym (time-slots-are (getD body 3 0)) ∙ slots in
+        let r = polling-read (getD body 0 0) (getD body 1 0) (getD body 2 0) (getD body 3 0) small listed in
+        (getD body 0 0, getD body 1 0, getD body 2 0, getD body 3 0, is, small, listed, given-is (sym e ∙ ap readFrame is ∙ r))
+
+    back : PollingFrame (n ∷ 0x00 ∷ body) c → readFrame (n ∷ 0x00 ∷ body) ≡ gives c
+    back (high, low, request, slots, is, small, listed, same) = ap readFrame is ∙ polling-read high low request slots small listed ∙ ap gives (sym same)

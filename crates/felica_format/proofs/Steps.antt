@@ -48,3 +48,6 @@ bind-step m next e = rw e
 -- an answer that refuses gives no command
 pub not-given : {n : ℕ} {code : Option ℕ} {c : Command} → refused n code ≡ gives c → ⊥
 not-given e = let z : _≡_ {A = ℕ} 0 1 = cc in omega arith
+
+pub given-is : {c d : Command} → gives c ≡ gives d → c ≡ d
+given-is e = cc

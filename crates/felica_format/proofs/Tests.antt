@@ -6,10 +6,8 @@ use mathlib.Core.Path.{_≡_, refl, sym}
 use mathlib.Core.Bool.{Bool, true, false, _||_, true≢false}
 use mathlib.Core.List.{List, [], _∷_}
 use lib.ListN.{length}
-use lib.Dec.{eqb}
-use borrow.Author.Tests.{ltb-true, ltb-false, leb-true, leb-false, eqb-true, lt-ltb, le-ltb, le-leb, lt-leb, eq-eqb}
+use borrow.Author.Tests.{ltb-true, ltb-false, leb-true, leb-false, eqb-true, lt-ltb, le-ltb, le-leb, lt-leb, eq-eqb, ne-eqb}
 use Rattle.felica_format.specs.Basic.{_and_, allBelow, isOneOf}
-use Rattle.felica_format.specs.Read.{isTimeSlots}
 use Rattle.felica_format.specs.Writable.{sameList, isEmpty}
 
 -- `omega tests` reads tests on numbers among the hypotheses, and proves one
@@ -59,15 +57,9 @@ pub length-zero : {A : Type 0} (l : List A) → length l ≤ 0 → isEmpty l ≡
 length-zero [] h = refl
 length-zero (x ∷ l) h = absurd (omega arith)
 
--- what is one of a list is below whatever the list is below
-pub one-below : (k : ℕ) (ys : List ℕ) (x : ℕ) → allBelow k ys ≡ true → isOneOf ys x ≡ true → x < k
-one-below k [] x small e = absurd (true≢false (sym e))
-one-below k (y ∷ ys) x small e = go (eqb x y) refl e (one-below k ys x (and-right _ _ small))
-  where
-    go : (b : Bool) → eqb x y ≡ b → (b || isOneOf ys x) ≡ true → (isOneOf ys x ≡ true → x < k) → x < k
-    go true h e later = let below : y < k = ltb-true _ _ (and-left _ _ small) in omega tests
-    go false h e later = later e
-
-pub slots-below : (x : ℕ) → isTimeSlots x ≡ true → x < 16
-unfolding isTimeSlots
-slots-below x e = ltb-true _ _ (and-left _ _ e)
+-- what is not below a bound is none of a list that is
+pub none-of : (k : ℕ) (ys : List ℕ) (x : ℕ) → allBelow k ys ≡ true → k ≤ x → isOneOf ys x ≡ false
+none-of k [] x small h = refl
+none-of k (y ∷ ys) x small h =
+    let below : y < k = ltb-true _ _ (and-left _ _ small) in
+    rw (ne-eqb x y (λ e. omega arith), none-of k ys x (and-right _ _ small) h)

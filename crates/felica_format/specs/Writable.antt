@@ -34,9 +34,16 @@ unfoldable pub idmOk : Bool → List ℕ → Bool
 idmOk false idm = sameList idm (zeros 8)
 idmOk true idm = areBytes 8 idm
 
+abbrev pub isZero : ℕ → Bool
+isZero x = eqb x 0
+
+-- "type 00 or 01"
+abbrev pub isType : ℕ → Bool
+isType x = leb x 1
+
 unfoldable pub selectorOk : Selector → ℕ → Bool
-selectorOk noSelector b = eqb b 0
-selectorOk typeByte b = leb b 1
+selectorOk noSelector b = isZero b
+selectorOk typeByte b = isType b
 selectorOk anyByte b = ltb b 256
 
 unfoldable pub codesOk : Codes → List ℕ → Bool
@@ -77,17 +84,14 @@ pub record Ranges : Type 0 where
 abbrev pub ranges : ℕ → ℕ → ℕ → (ℕ → Bool) → ℕ → Ranges
 ranges n i o c b = record { numbers = n; indices = i; options = o; choices = c; filled = b }
 
-abbrev pub isZero : ℕ → Bool
-isZero x = eqb x 0
-
--- a field that the layout lacks is 0: below 1, or tested for it
+-- a field that the layout lacks is 0: below 1, or `isZero`
 abbrev pub rangesOf : Ending → Ranges
 rangesOf (bytes n) = ranges 1 1 1 isZero n
 rangesOf word = ranges 65536 1 1 isZero 0
 rangesOf words = ranges 65536 65536 1 isZero 0
 rangesOf reserved = ranges 1 1 1 isZero 0
 rangesOf polling = ranges 65536 1 3 isTimeSlots 0
-rangesOf parameter = ranges 1 1 2 (λ x. leb x 1) 0
+rangesOf parameter = ranges 1 1 2 isType 0
 
 unfoldable pub endFieldsOk : Ranges → EndFields → Bool
 endFieldsOk r f =

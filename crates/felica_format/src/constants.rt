@@ -1,4 +1,4 @@
-// The constants of constants.rs that the commands use, under its names, and the functions that read its tables.
+// The constants of constants.rs that the commands use, under its names, and the functions that read its tables or stand in place of one.
 // Limits of counts are bytes, as the counts are.
 ghost use mathlib.Core.Path.{_≡_};
 ghost use lib.Dec.{leb};

@@ -17,7 +17,7 @@ use Rattle.felica_format.specs.Command.{Command, Element}
 use Rattle.felica_format.specs.Layout.{Codes, noCodes, _to_, Layout, classOf, layoutOf, boundsOf}
 use Rattle.felica_format.specs.Read.{readCount, readWords, readCodes, readEach, readElements, readBody, Answer as Reading, gives, refused}
 use Rattle.felica_format.specs.Read.{answerOf, readPlainAs, readPayload, readFrame}
-use Rattle.felica_format.proofs.Steps.{taken-value, none-taken, refuseIf-passed, refuseIf-taken, not-given}
+use Rattle.felica_format.proofs.Steps.{taken-value, none-taken, refuseIf-passed, refuseIf-taken, not-given, given-is}
 use Rattle.felica_format.proofs.Tests.{or-none}
 use Rattle.felica_format.proofs.Rows.{few-codes}
 use Rattle.felica_command.proofs.Inside.{wordsOf-length, each-leaves, took}
@@ -81,9 +81,6 @@ body-few code l s c rest h =
 pub record Listed (c : Command) : Type 0 where
   pub codes : length (listedCodes c) ≤ 64
   pub blocks : length (c .numbers) ≤ 255
-
-given-is : {c d : Command} → gives c ≡ gives d → c ≡ d
-given-is e = cc
 
 payload-few : (s : List ℕ) (c : Command) → readPayload s ≡ gives c → Listed c
 unfolding readPayload
