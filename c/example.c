@@ -217,6 +217,9 @@ static void print_frame(const struct bytes *frame) {
     printf("  command %02X\n", command.code);
     print_fixed(&command);
     print_lists(&command, payload);
+    if (answer.long_count != 0) {
+        printf("  in long form: %u\n", answer.long_count);
+    }
     print_written(frame, &command, payload);
 }
 

@@ -28,8 +28,9 @@ static int same(const struct lent *a, const struct lent *b) {
            memcmp(a->fields, b->fields, sizeof a->fields) == 0 && memcmp(a->parts, b->parts, sizeof a->parts) == 0;
 }
 
+/* An answer with no long element. */
 static int is(struct felica_answer answer, uint8_t refusal, uint8_t code) {
-    return answer.refusal == refusal && answer.code == code;
+    return answer.refusal == refusal && answer.code == code && answer.long_count == 0;
 }
 
 static struct lent filled(void) {
@@ -59,6 +60,18 @@ static void commands(void) {
     static const struct lent of_8e = {{0}, {0}, {0}, {0}};
     answer = felica_parse_secure_payload(0x8E, polling, 0, lent.idm, lent.challenge, lent.fields, lent.parts);
     expect(is(answer, 0, 0x8E) && same(&lent, &of_8e), "8E");
+}
+
+/* A read of the blocks 0, short, 0 and 256, long; then the last byte is missing. */
+static void long_forms(void) {
+    static const uint8_t payload[] = {0x03, 0x80, 0x00, 0x00, 0x00, 0x00, 0x00, 0x00, 0x01};
+    struct lent lent = filled();
+    struct felica_answer answer =
+        felica_parse_secure_payload(0x14, payload, sizeof payload, lent.idm, lent.challenge, lent.fields, lent.parts);
+    expect(answer.refusal == 0 && answer.code == 0x14 && answer.long_count == 2, "two long elements");
+    answer = felica_parse_secure_payload(0x14, payload, sizeof payload - 1, lent.idm, lent.challenge, lent.fields,
+                                         lent.parts);
+    expect(is(answer, FELICA_LONG_BLOCK_NUMBER_MISSING, 0x14), "the last long element cut off");
 }
 
 static void refusals(void) {
@@ -94,6 +107,7 @@ static void too_small(void) {
 
 int main(void) {
     commands();
+    long_forms();
     refusals();
     too_small();
     return failures == 0 ? 0 : 1;

@@ -129,10 +129,14 @@ enum felica_limit {
     FELICA_MAX_BLOCKS = 255 /* elements of the longest block list */
 };
 
-/* A command: `refusal` is 0 and `code` the command code. A refusal: its number and the code, 0 for 1 to 3. */
+/*
+ * A command: `refusal` is 0, `code` the command code, and `long_count` how many elements of BLOCK_LIST were in the long
+ * form, with a block number of two bytes. A refusal: its number, the code, 0 for 1 to 3, and the count 0.
+ */
 struct felica_answer {
     uint8_t refusal;
     uint8_t code;
+    uint8_t long_count;
 };
 
 /*

@@ -2,7 +2,7 @@
 """listings.py [CORPUS]: holds the program list_log to logs whose listings are known, whole and in small pieces. Not part of the gate.
 
 The logs of this file need nothing else. CORPUS, a folder that is not part of this repository (../shared/corpus beside it is taken if it is there), has more: logs/NAME.log
-with logs/NAME.w201, the listing expected of it since W-201, and full.tsv, logs of a million records as recipes: name, form, record in hexadecimal, how many times, the bytes behind
+with logs/NAME.w204, the listing expected of it since W-204, and full-w204.tsv, logs of a million records as recipes: name, form, record in hexadecimal, how many times, the bytes behind
 them in hexadecimal or -, and the SHA-256 of the listing. Build the program first: rt check list_log.
 """
 import fcntl
@@ -65,20 +65,20 @@ def own_logs():
     ):
         yield name, bytes(1000000) + bytes.fromhex(behind), f"{full}{last}TOTAL 1000000 0 1000000 0\n"
     yield "one less and cut", bytes(999999) + b"\5\1", lines_of(999999, "NO 1 --") + "CUT 4\nTOTAL 999999 0 999999 0\n"
-    yield "polling", POLLING * 40000, lines_of(40000, "OK 00 0 0 -") + "TOTAL 40000 40000 0 0\n"
+    yield "polling", POLLING * 40000, lines_of(40000, "OK 00 0 0 0 -") + "TOTAL 40000 40000 0 0\n"
     codes = (0x0000, 0x0001, 0x0040, 0x0041, 0xFFC1, 0xFFFF, 0xFFFE, 0x1009, 0x100B, 0x1008, 0x0002, 0x0003, 0x003F)
     payload = bytes([2, 1, 2, 3, 4, 5, 6, 7, 8, len(codes)]) + struct.pack(f"<{len(codes)}H", *codes)
-    yield "marks", bytes([len(payload) + 1] * 2) + payload, "1 OK 02 13 0 aaaaaskookkoo\nTOTAL 1 1 0 0\n"
-    yield "reads, cut", READ * 9000 + READ[:3], lines_of(9000, "OK 06 1 1 o") + "CUT 14\nTOTAL 9000 9000 0 9000\n"
+    yield "marks", bytes([len(payload) + 1] * 2) + payload, "1 OK 02 13 0 0 aaaaaskookkoo\nTOTAL 1 1 0 0\n"
+    yield "reads, cut", READ * 9000 + READ[:3], lines_of(9000, "OK 06 1 1 0 o") + "CUT 14\nTOTAL 9000 9000 0 9000\n"
 
 
 def corpus_logs(corpus):
     for path in sorted((corpus / "logs").glob("*.log")):
-        yield path.name, path.read_bytes(), path.with_suffix(".w201").read_text()
+        yield path.name, path.read_bytes(), path.with_suffix(".w204").read_text()
 
 
 def corpus_recipes(corpus):
-    for line in (corpus / "full.tsv").read_text().splitlines():
+    for line in (corpus / "full-w204.tsv").read_text().splitlines():
         name, form, record, times, behind, digest = line.split("\t")[:6]
         if form == "old":
             yield name, bytes.fromhex(record) * int(times) + bytes.fromhex("" if behind == "-" else behind), digest

@@ -1,5 +1,6 @@
 //! The four arrays that parser and list reader for C write: all of them with a command, none with a refusal.
-use crate::values::{Answer, Kind, Refusal, Values};
+use crate::ours;
+use crate::values::{Answer, Kind, Refusal, Values, payload};
 use felica::ffi;
 
 #[derive(Clone, PartialEq, Eq)]
@@ -15,7 +16,11 @@ const ZERO: Memory = Memory { idm: [0; 8], challenge: [0; 16], fields: [0; 5], p
 
 pub fn check(kind: Kind, code: u8, bytes: &[u8], answer: &Answer) -> Result<(), String> {
     let (start, size) = (bytes.as_ptr(), bytes.len());
-    check_call("parser", answer, &mut |memory| {
+    let long_count = match answer {
+        Ok(expected) => ours::long_by_layout(expected.code, payload(kind, bytes))?,
+        Err(_) => 0,
+    };
+    check_call("parser", answer, long_count, &mut |memory| {
         let Memory { idm, challenge, fields, parts } = memory;
         // SAFETY: start and size are those of `bytes`, and the four arrays are there and apart.
         unsafe {
@@ -27,18 +32,25 @@ pub fn check(kind: Kind, code: u8, bytes: &[u8], answer: &Answer) -> Result<(), 
         }
     })?;
     let Ok(expected) = answer else {
-        return check_lists(kind, code, bytes, &Values::default(), answer);
+        return check_lists(kind, code, bytes, &Values::default(), answer, long_count);
     };
-    check_lists(kind, code, bytes, expected, answer)?;
+    check_lists(kind, code, bytes, expected, answer, long_count)?;
     if expected.first.is_empty() && expected.second.is_empty() && expected.numbers.is_empty() {
         return Ok(());
     }
     let too_small = Err(Refusal { number: 21, code: Some(expected.code) });
-    check_lists(kind, code, bytes, &Values::default(), &too_small)
+    check_lists(kind, code, bytes, &Values::default(), &too_small, 0)
 }
 
 /// The list reader with buffers of just the sizes of these lists.
-fn check_lists(kind: Kind, code: u8, bytes: &[u8], sizes: &Values, answer: &Answer) -> Result<(), String> {
+fn check_lists(
+    kind: Kind,
+    code: u8,
+    bytes: &[u8],
+    sizes: &Values,
+    answer: &Answer,
+    long_count: u8,
+) -> Result<(), String> {
     let (at, size) = (bytes.as_ptr(), bytes.len());
     let mut lent = sizes.clone();
     let (first, firsts) = (lent.first.as_mut_ptr(), lent.first.len());
@@ -54,7 +66,7 @@ fn check_lists(kind: Kind, code: u8, bytes: &[u8], sizes: &Values, answer: &Answ
         };
     }
     // SAFETY: each pointer goes with the size of its own slice, and the four arrays are there and apart.
-    check_call("list reader", answer, &mut |memory| unsafe {
+    check_call("list reader", answer, long_count, &mut |memory| unsafe {
         match kind {
             Kind::Frame => list!(felica_list_frame, memory),
             Kind::Payload => list!(felica_list_payload, memory),
@@ -66,11 +78,12 @@ fn check_lists(kind: Kind, code: u8, bytes: &[u8], sizes: &Values, answer: &Answ
 fn check_call(
     name: &str,
     answer: &Answer,
+    long_count: u8,
     call: &mut dyn FnMut(&mut Memory) -> ffi::FelicaAnswer,
 ) -> Result<(), String> {
     let right = match answer {
-        Ok(expected) => ffi::FelicaAnswer { refusal: 0, code: expected.code },
-        Err(refusal) => ffi::FelicaAnswer { refusal: refusal.number, code: refusal.code.unwrap_or(0) },
+        Ok(expected) => ffi::FelicaAnswer { refusal: 0, code: expected.code, long_count },
+        Err(refusal) => ffi::FelicaAnswer { refusal: refusal.number, code: refusal.code.unwrap_or(0), long_count },
     };
     let (mut filled, mut zero) = (FILLED, ZERO);
     for memory in [&mut filled, &mut zero] {

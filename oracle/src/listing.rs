@@ -63,7 +63,8 @@ fn list_frame(frame: &[u8], totals: &mut Totals, out: &mut impl Write) -> io::Re
             let (code, codes, blocks) = (frame[1], listed_codes(&command), blocks(&command));
             totals.accepted += 1;
             totals.blocks += blocks as u64;
-            write!(out, "{ordinal} OK {code:02X} {} {blocks} ", codes.len())?;
+            let long = long_elements(frame, blocks);
+            write!(out, "{ordinal} OK {code:02X} {} {blocks} {long} ", codes.len())?;
             let marks: Vec<u8> = codes.iter().copied().map(mark).collect();
             out.write_all(if marks.is_empty() { b"-" } else { &marks })?;
             out.write_all(b"\n")
@@ -110,4 +111,15 @@ fn mark(code: u16) -> u8 {
         _ if code & 1 == 1 => b'o',
         _ => b'k',
     }
+}
+
+/// How many of the elements are long, their first byte with bit 7 clear. felica-rs does not tell: they stand behind the service codes and their count.
+fn long_elements(frame: &[u8], blocks: usize) -> usize {
+    let (mut long, mut at) = (0, 12 + 2 * frame.get(10).map_or(0, |&codes| usize::from(codes)));
+    for _ in 0..blocks {
+        let is_long = frame[at] < 0x80;
+        long += usize::from(is_long);
+        at += if is_long { 3 } else { 2 };
+    }
+    long
 }

@@ -1,7 +1,7 @@
 //! What our parser answers, as plain values: the lists and the data are read from the payload at the parts that it names.
 use crate::layouts::{Behind, layout};
 use crate::values::{Answer, Kind, Values, payload};
-use felica::{Command, Part};
+use felica::{Command, Parsed, Part};
 
 /// Err says which part is not where its layout puts it.
 pub fn answer(kind: Kind, code: u8, bytes: &[u8]) -> Result<Answer, String> {
@@ -13,9 +13,12 @@ pub fn answer(kind: Kind, code: u8, bytes: &[u8]) -> Result<Answer, String> {
     answer_of(parsed, payload(kind, bytes))
 }
 
-pub fn answer_of(parsed: Result<Command, felica::Refusal>, payload: &[u8]) -> Result<Answer, String> {
+pub fn answer_of(parsed: Result<Parsed, felica::Refusal>, payload: &[u8]) -> Result<Answer, String> {
     match parsed {
-        Ok(command) => values(&command, payload).map(Ok),
+        Ok(Parsed { command, long }) => {
+            same_long(long, long_by_layout(command.code, payload)?)?;
+            values(&command, payload).map(Ok)
+        }
         Err(refusal) => Ok(Err(refusal.into())),
     }
 }
@@ -56,6 +59,7 @@ struct Elements {
     numbers: Vec<u16>,
     places: Vec<u8>,
     modes: Vec<u8>,
+    long: u8,
     end: usize,
 }
 
@@ -68,6 +72,7 @@ fn elements(payload: &[u8], part: Part) -> Option<Elements> {
         read.numbers.push(u16::from_le_bytes([low, high]));
         read.places.push(head & 0x0F);
         read.modes.push(head >> 4 & 0x07);
+        read.long += u8::from(head & 0x80 == 0);
         read.end += if head & 0x80 == 0 { 3 } else { 2 };
     }
     Some(read)
@@ -94,6 +99,24 @@ fn check_places(command: &Command, payload: &[u8]) -> Result<(), String> {
     same("block list", command.block_list, block_list)?;
     same("data", command.data, data)?;
     same("package", command.package, package)
+}
+
+/// How many elements of an accepted payload are long.
+pub fn long_by_layout(code: u8, payload: &[u8]) -> Result<u8, String> {
+    let row = layout(code).ok_or_else(|| format!("a command with the code {code:02X}"))?;
+    let mut at = row.front();
+    for there in [row.first.is_some(), row.second.is_some()] {
+        at += 2 * counted(payload, there, &mut at)?.count;
+    }
+    let block_list = counted(payload, row.blocks, &mut at)?;
+    Ok(elements(payload, block_list).ok_or("the layout leaves the payload")?.long)
+}
+
+fn same_long(ours: u8, right: u8) -> Result<(), String> {
+    if ours == right {
+        return Ok(());
+    }
+    Err(format!("{ours} elements said to be long, by the layout {right}"))
 }
 
 const NONE: Part = Part { start: 0, count: 0 };

@@ -38,12 +38,12 @@ lineFrom a after rest =
     (after .modes ++ rest .modes)
 
 module _ (s : List ℕ) (b rest : Buffers) where
-  fields-line : (f : Fields) (idm challenge : List ℕ) → f .elements .start + elementsSize (f .elements .count) (drop (f .elements .start) s) ≤ length s
+  fields-line : (f : Fields) (idm challenge : List ℕ) (long : ℕ) → f .elements .start + elementsSize (f .elements .count) (drop (f .elements .start) s) ≤ length s
       → (after : Buffers) → after ≡ fronts (listsOf (commandIs s idm challenge f)) b
       → frontsText f (after .first ++ rest .first) (after .second ++ rest .second) (after .numbers ++ rest .numbers) (after .places ++ rest .places)
       (after .modes ++ rest .modes)
-      ≡ listLine (gives (commandIs s idm challenge f))
-  fields-line f idm challenge inside after e =
+      ≡ listLine (gives (commandIs s idm challenge f) long)
+  fields-line f idm challenge long inside after e =
       let first = front-is (codesAt s (f .first)) (b .first) (rest .first) _ (wordsOf-length _ _) in
       let second = front-is (codesAt s (f .second)) (b .second) (rest .second) _ (wordsOf-length _ _) in
       let es = elementsAt s (f .elements) in
@@ -52,22 +52,22 @@ module _ (s : List ℕ) (b rest : Buffers) where
       let modes = front-is (map (λ (e : Element). e .mode) es) (b .modes) (rest .modes) _ (values-counted s (f .elements) (λ (e : Element). e .mode) inside) in
       rw e (same-lists _ first second numbers places modes)
 
-  pub listed-line : (a : Answer) (idm challenge : List ℕ) (reading : Reading) (after : Buffers) → outcome (answerIs s idm challenge a) after ≡ listed reading b
+  pub listed-line : (a : Answer) (idm challenge : List ℕ) (long : ℕ) (reading : Reading) (after : Buffers) → outcome (answerIs s idm challenge long a) after ≡ listed reading b
       → Inside s (answerPlaces a) → lineFrom a after rest ≡ listLine (listed reading b .answer)
   unfolding listedText
-  listed-line (AnswerRefused why) idm challenge reading after e inside = refusal-line why ∙ ap (λ (o : Outcome). listLine (o .answer)) e
-  listed-line (AnswerCommand kind) idm challenge (refused n code) after e inside = absurd (not-given (sym (ap (λ (o : Outcome). o .answer) e)))
-  listed-line (AnswerCommand kind) idm challenge (gives c) after e inside = go (fits (listsOf c) b) e
+  listed-line (AnswerRefused why) idm challenge long reading after e inside = refusal-line why ∙ ap (λ (o : Outcome). listLine (o .answer)) e
+  listed-line (AnswerCommand kind) idm challenge long (refused n code) after e inside = absurd (not-given (sym (ap (λ (o : Outcome). o .answer) e)))
+  listed-line (AnswerCommand kind) idm challenge long (gives c m) after e inside = go (fits (listsOf c) b) e
     where
-      go : (room : Bool) → outcome (gives (commandIs s idm challenge (fieldsOf kind))) after ≡ listedIf room c b
+      go : (room : Bool) → outcome (gives (commandIs s idm challenge (fieldsOf kind)) long) after ≡ listedIf room c m b
           → frontsText (fieldsOf kind) (after .first ++ rest .first) (after .second ++ rest .second) (after .numbers ++ rest .numbers)
           (after .places ++ rest .places) (after .modes ++ rest .modes)
-          ≡ listLine (listedIf room c b .answer)
+          ≡ listLine (listedIf room c m b .answer)
       go true e =
           let same = given-is (ap (λ (o : Outcome). o .answer) e) in
-          fields-line (fieldsOf kind) idm challenge (inside .2) after
+          fields-line (fieldsOf kind) idm challenge long (inside .2) after
           (ap (λ (o : Outcome). o .buffers) e ∙ ap (λ (x : Command). fronts (listsOf x) b) (sym same))
-          ∙ ap (λ (x : Command). listLine (gives x)) same
+          ∙ ap (λ (x : Command). listLine (gives x m)) same
       go false e = absurd (not-given (sym (ap (λ (o : Outcome). o .answer) e)))
 
 -- what the list reader answers depends on the lengths of the buffers alone
@@ -76,11 +76,11 @@ pub same-answer : (reading : Reading) (b d : Buffers) → length (b .first) ≡ 
     → listed reading b .answer ≡ listed reading d .answer
 unfolding fits
 same-answer (refused n code) b d e₁ e₂ e₃ e₄ e₅ = refl
-same-answer (gives c) b d e₁ e₂ e₃ e₄ e₅ =
+same-answer (gives c long) b d e₁ e₂ e₃ e₄ e₅ =
     let room : fits (listsOf c) b ≡ fits (listsOf c) d = rw (e₁, e₂, e₃, e₄, e₅) in
     rw room (go (fits (listsOf c) d))
   where
-    go : (room : Bool) → listedIf room c b .answer ≡ listedIf room c d .answer
+    go : (room : Bool) → listedIf room c long b .answer ≡ listedIf room c long d .answer
     go true = refl
     go false = refl
 
@@ -94,7 +94,7 @@ module _ (s : List ℕ) (reading : Reading) (z : Sizes) (f g n p m : List ℕ) (
       ≡ listAnswer reading z
   line-from (h₁, h₂, h₃, h₄, h₅) e inside =
       listed-line s _ (buffers (drop (z .first) f) (drop (z .second) g) (drop (z .numbers) n) (drop (z .places) p) (drop (z .modes) m))
-      (r .answer) (r .idm) (r .challenge) reading after e inside
+      (r .answer) (r .idm) (r .challenge) (r .long) reading after e inside
       ∙ ap listLine (same-answer reading _ (lent z) (as-long (z .first) f h₁) (as-long (z .second) g h₂) (as-long (z .numbers) n h₃)
       (as-long (z .places) p h₄) (as-long (z .modes) m h₅))
     where

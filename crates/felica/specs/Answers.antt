@@ -11,8 +11,9 @@ use Rattle.felica_calls.specs.Fault.{faultText}
 use Rattle.felica_calls.specs.Write.{behindCode}
 use Rattle.felica_calls.specs.Call.{Called}
 use Rattle.felica_calls.specs.declared.call.Call.{Call}
-use Rattle.felica_calls.specs.declared.call.Call.the-variants.{Parse, List as ListCall, Write, Wrong}
+use Rattle.felica_calls.specs.declared.call.Call.the-variants.{Parse, Long, List as ListCall, Write, Wrong}
 use Rattle.felica_answers.specs.Answer.{lineOf}
+use Rattle.felica_answers.specs.Long.{longLine}
 use Rattle.felica_writing.specs.Answer.{writeAnswer}
 use Rattle.felica.specs.Source.{readingOf, payloadIn, bodyAt}
 use Rattle.felica.specs.Lists.{listAnswer}
@@ -22,6 +23,7 @@ abbrev pub AnswerTo : List ℕ → Call → List ℕ → Buffer → Buffer → T
 AnswerTo line (Parse source n) bytes before after =
     (p : Parsed) × Account (payloadIn source (take n bytes)) (bodyAt source) (readingOf source (take n bytes)) p
     × (after ≡ put before (lineOf (payloadIn source (take n bytes)) p))
+AnswerTo line (Long source n) bytes before after = after ≡ put before (longLine (readingOf source (take n bytes)))
 AnswerTo line (ListCall source n z) bytes before after = after ≡ put before (listAnswer (readingOf source (take n bytes)) z)
 AnswerTo line (Write size c) bytes before after = after ≡ put before (writeAnswer size c (behindCode line))
 AnswerTo line (Wrong fault) bytes before after = after ≡ put before (faultText fault)

@@ -21,6 +21,7 @@ use felica_text::find::find;
 use felica_writing::answer_write;
 use libc::STDOUT_FILENO;
 use lists::answer_list;
+use parse::answer_long;
 use parse::answer_parse;
 
 // Bytes of the longest call.
@@ -44,6 +45,7 @@ fn answer_call(line: &[u8], bytes: &mut [u8], out: &mut [u8], at: usize) -> usiz
     let call = read_call(line, bytes);
     match call {
         Call::Parse(source, count) => answer_parse(source, &bytes[..count], out, at),
+        Call::Long(source, count) => answer_long(source, &bytes[..count], out, at),
         Call::List(source, count, sizes) => answer_list(source, &bytes[..count], sizes, out, at),
         Call::Write(size, code) => answer_write(size, code, behind_code(line), out, at),
         Call::Wrong(fault) => put_fault(out, at, fault),

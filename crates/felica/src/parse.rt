@@ -4,8 +4,10 @@ ghost use Rattle.felica_command.specs.Places.{Account};
 ghost use Rattle.felica_command.specs.declared.command.Parsed.{Parsed};
 ghost use Rattle.felica_put.specs.Put.{buffer, put};
 ghost use Rattle.felica_answers.specs.Answer.{lineOf};
+ghost use Rattle.felica_answers.specs.Long.{longLine};
 ghost use Rattle.felica.specs.Source.{readingOf, payloadIn, bodyAt};
 use felica_answers::answer::put_answer;
+use felica_answers::long::put_long;
 use felica_calls::source::Source;
 use felica_command::command::Parsed;
 use felica_frame::parse_frame;
@@ -20,6 +22,14 @@ pub(crate) fn answer_parse(source: Source, bytes: &[u8], out: &mut [u8], at: usi
     let parsed = parse(source, bytes);
     let payload = payload_in(source, bytes);
     put_answer(out, at, payload, parsed)
+}
+
+// The line that tells how many elements were long.
+pub(crate) fn answer_long(source: Source, bytes: &[u8], out: &mut [u8], at: usize) -> usize
+    ensures { λ r. ⌜ buffer (now (out .exit)) r ≡ put (buffer (now (out .entry)) at) (longLine (readingOf source (now (bytes .entry)))) ⌝ }
+{
+    let parsed = parse(source, bytes);
+    put_long(out, at, parsed)
 }
 
 fn parse(source: Source, bytes: &[u8]) -> Parsed

@@ -1,3 +1,4 @@
 pub mod Rows
 pub mod Listed
 pub mod Lines
+pub mod Longs

@@ -19,7 +19,7 @@ listsText code first second numbers places modes =
 
 -- the line of what the list reader answers
 abbrev pub listLine : Reading → List ℕ
-listLine (gives c) = listsText (c .code) (c .first) (c .second) (c .numbers) (c .places) (c .modes)
+listLine (gives c long) = listsText (c .code) (c .first) (c .second) (c .numbers) (c .places) (c .modes)
 listLine (refused n code) = refusedText n code
 
 -- the same for a result, whose lists stand at the front of the lent buffers

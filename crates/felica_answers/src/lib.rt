@@ -2,4 +2,5 @@
 pub mod answer;
 mod fields;
 pub mod lists;
+pub mod long;
 pub mod written;

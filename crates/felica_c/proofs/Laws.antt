@@ -38,28 +38,28 @@ typed-listed code a b codes e = rw e refl
 
 -- the two cases of `tell`
 pub told-command : (p : Parsed) (kind : FelicaStandardCommand) (m : Lent) (code : ℕ) (fields parts : List ℕ) → p .answer ≡ AnswerCommand kind
-    → put code fields parts ≡ putFields (fieldsOf kind) → told (answer 0 code) (lent (p .idm) (p .challenge) fields parts) ≡ tell p m
+    → put code fields parts ≡ putFields (fieldsOf kind) → told (answer 0 code (p .long)) (lent (p .idm) (p .challenge) fields parts) ≡ tell p m
 told-command p kind m code fields parts is same =
-    ap (λ (x : Put). told (answer 0 (x .code)) (lent (p .idm) (p .challenge) (x .fields) (x .parts))) same
-    ∙ ap (λ (a : Answer). tellAnswer (p .idm) (p .challenge) a m) (sym is)
+    ap (λ (x : Put). told (answer 0 (x .code) (p .long)) (lent (p .idm) (p .challenge) (x .fields) (x .parts))) same
+    ∙ ap (λ (a : Answer). tellAnswer (p .idm) (p .challenge) (p .long) a m) (sym is)
 
-pub told-refusal : (p : Parsed) (why : Refusal) (m : Lent) (r : FelicaAnswer) → p .answer ≡ AnswerRefused why → r ≡ answer (refusal why) (refusalCode why)
+pub told-refusal : (p : Parsed) (why : Refusal) (m : Lent) (r : FelicaAnswer) → p .answer ≡ AnswerRefused why → r ≡ answer (refusal why) (refusalCode why) 0
     → told r m ≡ tell p m
 told-refusal p why m r is same =
-    ap (λ (a : FelicaAnswer). told a m) same ∙ ap (λ (a : Answer). tellAnswer (p .idm) (p .challenge) a m) (sym is)
+    ap (λ (a : FelicaAnswer). told a m) same ∙ ap (λ (a : Answer). tellAnswer (p .idm) (p .challenge) (p .long) a m) (sym is)
 
 -- what is told of a result is told of what the bytes give
-answer-tells : (s idm challenge : List ℕ) (at : ℕ) (a : Answer) (m : Lent) → answerPlaces a ≡ readPlaces at s (answerIs s idm challenge a)
-    → tellAnswer idm challenge a m ≡ telling at s (answerIs s idm challenge a) m
-answer-tells s idm challenge at (AnswerCommand kind) m placed =
-    ap (λ (q : Places). told (answer 0 (putFields (fieldsOf kind) .code)) (lent idm challenge (putFields (fieldsOf kind) .fields) (partsOf q))) placed
-answer-tells s idm challenge at (AnswerRefused (Number n)) m placed = refl
-answer-tells s idm challenge at (AnswerRefused (OfCommand n code)) m placed = refl
+answer-tells : (s idm challenge : List ℕ) (long at : ℕ) (a : Answer) (m : Lent) → answerPlaces a ≡ readPlaces at s (answerIs s idm challenge long a)
+    → tellAnswer idm challenge long a m ≡ telling at s (answerIs s idm challenge long a) m
+answer-tells s idm challenge long at (AnswerCommand kind) m placed =
+    ap (λ (q : Places). told (answer 0 (putFields (fieldsOf kind) .code) long) (lent idm challenge (putFields (fieldsOf kind) .fields) (partsOf q))) placed
+answer-tells s idm challenge long at (AnswerRefused (Number n)) m placed = refl
+answer-tells s idm challenge long at (AnswerRefused (OfCommand n code)) m placed = refl
 
 pub result-tells : (s : List ℕ) (at : ℕ) (reading : Reading) (p : Parsed) (m : Lent) → meaning s p ≡ reading → placesOf p ≡ readPlaces at s reading
     → tell p m ≡ telling at s reading m
 result-tells s at reading p m means placed =
-    answer-tells s (p .idm) (p .challenge) at (p .answer) m (placed ∙ ap (readPlaces at s) (sym means)) ∙ ap (λ (x : Reading). telling at s x m) means
+    answer-tells s (p .idm) (p .challenge) (p .long) at (p .answer) m (placed ∙ ap (readPlaces at s) (sym means)) ∙ ap (λ (x : Reading). telling at s x m) means
 
 -- the same of the list reader's result p, with its buffers b
 pub list-tells : (s : List ℕ) (at : ℕ) (o : Outcome) (p : Parsed) (b : Buffers) (m : Lent) (t : Told) → outcome (meaning s p) b ≡ o

@@ -36,8 +36,8 @@ pub record Told : Type 0 where
   pub answer : FelicaAnswer
   pub memory : Lent
 
-abbrev pub answer : ℕ → ℕ → FelicaAnswer
-answer number code = record { refusal = number; code = code }
+abbrev pub answer : ℕ → ℕ → ℕ → FelicaAnswer
+answer number code long = record { refusal = number; code = code; «long_count» = long }
 
 abbrev pub told : FelicaAnswer → Lent → Told
 told a m = record { answer = a; memory = m }
@@ -47,13 +47,13 @@ abbrev pub codeOr0 : Option ℕ → ℕ
 codeOr0 none = 0
 codeOr0 (some code) = code
 
--- The account of a parse, for what the bytes give in the payload s, whose body begins at `at`, and the memory before the call. A command has the number 0 and
--- fills the memory; a refusal leaves it as it was.
+-- The account of a parse, for what the bytes give in the payload s, whose body begins at `at`, and the memory before the call. A command has the number 0,
+-- tells how many of its elements were long, and fills the memory; a refusal tells 0 of them and leaves it as it was.
 abbrev pub telling : ℕ → List ℕ → Reading → Lent → Told
-telling at s (gives c) m =
-    told (answer 0 (c .code))
-    (lent (c .idm) (c .challenge) (fixedFields (c .selector) (c .number) (c .index) (c .option) (c .choice)) (partsOf (readPlaces at s (gives c))))
-telling at s (refused n code) m = told (answer n (codeOr0 code)) m
+telling at s (gives c long) m =
+    told (answer 0 (c .code) long)
+    (lent (c .idm) (c .challenge) (fixedFields (c .selector) (c .number) (c .index) (c .option) (c .choice)) (partsOf (readPlaces at s (gives c long))))
+telling at s (refused n code) m = told (answer n (codeOr0 code) 0) m
 
 -- the fixed fields that the writer is handed
 abbrev pub fixed : List ℕ → List ℕ → ℕ → ℕ → ℕ → ℕ → ℕ → Fixed

@@ -34,13 +34,13 @@ abbrev pub refusalCode : Refusal → ℕ
 refusalCode (Number n) = 0
 refusalCode (OfCommand n code) = code
 
-abbrev pub tellAnswer : List ℕ → List ℕ → Answer → Lent → Told
-tellAnswer idm challenge (AnswerCommand kind) m =
-    told (answer 0 (putFields (fieldsOf kind) .code)) (lent idm challenge (putFields (fieldsOf kind) .fields) (putFields (fieldsOf kind) .parts))
-tellAnswer idm challenge (AnswerRefused why) m = told (answer (refusal why) (refusalCode why)) m
+abbrev pub tellAnswer : List ℕ → List ℕ → ℕ → Answer → Lent → Told
+tellAnswer idm challenge long (AnswerCommand kind) m =
+    told (answer 0 (putFields (fieldsOf kind) .code) long) (lent idm challenge (putFields (fieldsOf kind) .fields) (putFields (fieldsOf kind) .parts))
+tellAnswer idm challenge long (AnswerRefused why) m = told (answer (refusal why) (refusalCode why) 0) m
 
 abbrev pub tell : Parsed → Lent → Told
-tell p m = tellAnswer (p .idm) (p .challenge) (p .answer) m
+tell p m = tellAnswer (p .idm) (p .challenge) (p .long) (p .answer) m
 
 abbrev pub unwrittenBy : Refusal → FelicaWritten
 unwrittenBy why = record { refusal = refusal why; length = 0 }

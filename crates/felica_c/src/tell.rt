@@ -30,6 +30,7 @@ pub fn tell(
             FelicaAnswer {
                 refusal: 0,
                 code: code,
+                long_count: parsed.long,
             }
         }
         Answer::Refused(why) => refused(why),
@@ -37,16 +38,18 @@ pub fn tell(
 }
 
 fn refused(why: Refusal) -> FelicaAnswer
-    ensures { λ r. ⌜ r ≡ answer (refusal why) (refusalCode why) ⌝ }
+    ensures { λ r. ⌜ r ≡ answer (refusal why) (refusalCode why) 0 ⌝ }
 {
     match why {
         Refusal::Number(number) => FelicaAnswer {
             refusal: number,
             code: 0,
+            long_count: 0,
         },
         Refusal::OfCommand(number, code) => FelicaAnswer {
             refusal: number,
             code: code,
+            long_count: 0,
         },
     }
 }

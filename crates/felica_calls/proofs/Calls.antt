@@ -6,11 +6,12 @@ use mathlib.Core.List.{List}
 use Prim.Native.Nat.{ℕ}
 use lib.ListN.{length, drop}
 use borrow.Author.Tests.{ne-eqb}
-use Rattle.felica_calls.specs.Field.{fieldOf, behindField, nextField, isByte}
+use Rattle.felica_text.specs.Text.{text}
+use Rattle.felica_calls.specs.Field.{fieldOf, behindField, nextField, isByte, isName}
 use Rattle.felica_calls.specs.Bytes.{Decoded, decoded}
 use Rattle.felica_calls.specs.Source.{secureSource, readCommandCode, readSource}
 use Rattle.felica_calls.specs.Write.{writeOf}
-use Rattle.felica_calls.specs.Call.{called, withBytes, askedOf, parseOf, listOf, readCall}
+use Rattle.felica_calls.specs.Call.{called, withBytes, askedOf, parseOf, longOf, listOf, readCall}
 use Rattle.felica_calls.specs.declared.fault.Fault.the-variants.{UnknownCall}
 use Rattle.felica_calls.specs.declared.bytes.Bytes.{Bytes}
 use Rattle.felica_calls.specs.declared.source.Source.the-variants.{Frame, Payload}
@@ -45,9 +46,15 @@ module _ (line held : List ℕ) (some : length line ≡ 0 → ⊥) where
   unfolding readCall
   line-write l w = rw (ne-eqb _ _ some, l, w)
 
-  pub line-parse : isByte 76 (fieldOf line) ≡ false → isByte 87 (fieldOf line) ≡ false → readCall line held ≡ askedOf parseOf (readSource line) line held
+  pub line-long : isByte 76 (fieldOf line) ≡ false → isByte 87 (fieldOf line) ≡ false → isName (text "LONG") (fieldOf line) ≡ true
+      → readCall line held ≡ askedOf longOf (readSource (drop 1 (behindField line))) (drop 1 (behindField line)) held
   unfolding readCall
-  line-parse l w = rw (ne-eqb _ _ some, l, w)
+  line-long l w n = rw (ne-eqb _ _ some, l, w, n)
+
+  pub line-parse : isByte 76 (fieldOf line) ≡ false → isByte 87 (fieldOf line) ≡ false → isName (text "LONG") (fieldOf line) ≡ false
+      → readCall line held ≡ askedOf parseOf (readSource line) line held
+  unfolding readCall
+  line-parse l w n = rw (ne-eqb _ _ some, l, w, n)
 
 -- the bytes that were found
 pub bytes-found : (make : ℕ → Call) {answer found : Bytes} {held : List ℕ} {d : Decoded} → answer ≡ found → decoded answer held ≡ d

@@ -8,13 +8,14 @@ use native.Mathlib.Omega.{arith}
 use lib.Dec.{ltb, eqb}
 use lib.ListN.{length, drop, length-append, length-drop}
 use borrow.Author.Tests.{ltb-false}
-use Rattle.felica_calls.specs.Field.{fieldOf, behindField, nextField, behindNext, isByte}
+use Rattle.felica_text.specs.Text.{text}
+use Rattle.felica_calls.specs.Field.{fieldOf, behindField, nextField, behindNext, isByte, isName}
 use Rattle.felica_calls.specs.Number.{allDecimal, decimalFrom, readNumber}
 use Rattle.felica_calls.specs.Sizes.{maxLent, Lent, ifNumber, nextSize, readSizes}
 use Rattle.felica_calls.specs.Bytes.{allDigits, bytesOf, Decoded, decoded, readBytes, readLast}
 use Rattle.felica_calls.specs.Source.{readSource, behindSource, readCommandCode}
 use Rattle.felica_calls.specs.Write.{maxRoom, writeWith}
-use Rattle.felica_calls.specs.Call.{Called, called, withBytes, askedOf, parseOf, listWith, listOf, readCall, countOf}
+use Rattle.felica_calls.specs.Call.{Called, called, withBytes, askedOf, parseOf, longOf, listWith, listOf, readCall, countOf}
 use Rattle.felica_calls.specs.declared.fault.Fault.{Fault}
 use Rattle.felica_calls.specs.declared.fault.Fault.the-variants.{EmptyLine}
 use Rattle.felica_calls.specs.declared.number.Number.{Number}
@@ -29,7 +30,7 @@ use Rattle.felica_calls.specs.declared.source.Code.the-variants.{Code as
 use Rattle.felica_calls.specs.declared.bytes.Bytes.{Bytes}
 use Rattle.felica_calls.specs.declared.bytes.Bytes.the-variants.{Count, Wrong as WrongBytes}
 use Rattle.felica_calls.specs.declared.call.Call.{Call}
-use Rattle.felica_calls.specs.declared.call.Call.the-variants.{Parse, List as ListCall, Write, Wrong}
+use Rattle.felica_calls.specs.declared.call.Call.the-variants.{Parse, Long, List as ListCall, Write, Wrong}
 use Rattle.felica_calls.proofs.Reading.{length-bytes}
 
 -- what holds of both answers of a test
@@ -98,6 +99,7 @@ last-fit s held =
 
 abbrev pub CallLends : Call → Type 0
 CallLends (Parse source n) = Unit
+CallLends (Long source n) = Unit
 CallLends (ListCall source n z) = Lent z
 CallLends (Write size c) = Unit
 CallLends (Wrong fault) = Unit
@@ -119,6 +121,12 @@ parse-fits (TheSource source) s held =
     let d = readLast (behindSource source s) held in
     bytes-call (Parse source) (λ n. refl) (λ n. tt) (d .answer) (d .buffer) (last-fit (behindSource source s) held)
 parse-fits (WrongSource fault) s held = wrong-fits fault held
+
+long-fits : (found : SourceRead) (s held : List ℕ) → Fits (askedOf longOf found s held)
+long-fits (TheSource source) s held =
+    let d = readLast (behindSource source s) held in
+    bytes-call (Long source) (λ n. refl) (λ n. tt) (d .answer) (d .buffer) (last-fit (behindSource source s) held)
+long-fits (WrongSource fault) s held = wrong-fits fault held
 
 sized-fits : (source : Source) (found : SizesRead) (s held : List ℕ) → AllBelow found → Fits (listWith source found s held)
 sized-fits source (TheSizes z) s held l =
@@ -142,6 +150,7 @@ call-fits line held =
     either Fits (eqb (length line) 0) _ _ (wrong-fits EmptyLine held) λ a.
     either Fits (isByte 76 (fieldOf line)) _ _ (list-fits (readSource (drop 1 (behindField line))) (drop 1 (behindField line)) held) λ b.
     either Fits (isByte 87 (fieldOf line)) _ _ (write-fits (readNumber maxRoom (nextField (behindField line))) (readCommandCode (nextField (behindNext (behindField line)))) held) λ c.
+    either Fits (isName (text "LONG") (fieldOf line)) _ _ (long-fits (readSource (drop 1 (behindField line))) (drop 1 (behindField line)) held) λ d.
     parse-fits (readSource line) line held
 
 module _ (line held : List ℕ) {call : Call} {m : List ℕ} (e : called call m ≡ readCall line held) where

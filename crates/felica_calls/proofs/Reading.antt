@@ -3,21 +3,21 @@
 use mathlib.Core.Path.{_≡_, refl, ap, _∙_}
 use mathlib.Core.Bool.{Bool, true, false, cond}
 use mathlib.Core.List.{List, [], _∷_, _++_}
-use Prim.Native.Nat.{ℕ, _+_, _-_, _*_, _/_, _≤_, _<_}
+use Prim.Native.Nat.{ℕ, suc, _+_, _-_, _*_, _/_, _≤_, _<_}
 use native.Mathlib.Omega.{arith}
 use lib.Dec.{ltb, leb, eqb}
-use lib.ListN.{length, getD, take, drop, length-take, length-drop}
+use lib.ListN.{length, getD, take, drop, length-take, length-drop, drop-of-length-le}
 use Rattle.felica_format.specs.Basic.{_and_}
 use Rattle.felica_format.proofs.Tests.{tests}
 use Rattle.felica_text.specs.Text.{digitOf, before}
-use Rattle.felica_calls.specs.Field.{isByte}
+use Rattle.felica_calls.specs.Field.{isByte, isName}
 use Rattle.felica_calls.specs.Bytes.{valueOf, allDigits, byteOf, bytesOf, decoded, readBytes, readLast}
 use Rattle.felica_calls.specs.Source.{readCommandCode}
 use Rattle.felica_calls.specs.declared.source.Code.the-variants.{Code as TheCode, Wrong as WrongCode}
 use Rattle.felica_calls.specs.declared.fault.Fault.the-variants.{MissingField, ExtraField, CodeSize, NoDigit as NotADigit}
 use Rattle.felica_calls.specs.declared.bytes.Bytes.the-variants.{Wrong as WrongBytes}
 use Rattle.felica_put.specs.Put.{buffer, put}
-use borrow.Author.Tests.{lt-ltb, le-ltb}
+use borrow.Author.Tests.{lt-ltb, le-ltb, eq-eqb, ne-eqb}
 use Rattle.felica_text.specs.declared.hex.Digit.the-variants.{Value, NoDigit}
 use Rattle.felica_put.proofs.Laws.{drop-next, put-front}
 
@@ -89,6 +89,31 @@ pub byte-one : (b : ℕ) (s : List ℕ) → length s ≡ 1 → isByte b s ≡ eq
 byte-one b [] h = absurd (omega arith)
 byte-one b (d ∷ []) h = refl
 byte-one b (d ∷ e ∷ s) h = absurd (omega arith)
+
+-- a name of another size, and on a walk along the field
+pub name-size : (key s : List ℕ) → (length s ≡ length key → ⊥) → isName key s ≡ false
+unfolding isName _and_
+name-size [] [] h = absurd (h refl)
+name-size [] (d ∷ s) h = refl
+name-size (k ∷ key) [] h = refl
+name-size (k ∷ key) (d ∷ s) h = rw (name-size key s (λ e. h (ap suc e))) (go (eqb d k))
+  where
+    go : (t : Bool) → t and false ≡ false
+    go true = refl
+    go false = refl
+
+module _ (key s : List ℕ) (i : ℕ) (h : i < length key) (k : i < length s) where
+  pub name-other : (getD s i 0 ≡ getD key i 0 → ⊥) → isName (drop i key) (drop i s) ≡ false
+  unfolding isName _and_
+  name-other other = rw (drop-next key i 0 h, drop-next s i 0 k, ne-eqb _ _ other)
+
+  pub name-more : getD s i 0 ≡ getD key i 0 → isName (drop i key) (drop i s) ≡ isName (drop (i + 1) key) (drop (i + 1) s)
+  unfolding isName _and_
+  name-more same = rw (drop-next key i 0 h, drop-next s i 0 k, eq-eqb _ _ same)
+
+pub name-all : (key s : List ℕ) (i : ℕ) → length key ≤ i → length s ≤ i → isName (drop i key) (drop i s) ≡ true
+unfolding isName
+name-all key s i h k = rw (drop-of-length-le key h, drop-of-length-le s k)
 
 pub drop-none : (s : List ℕ) → length s ≡ 0 → s ≡ drop 1 s
 drop-none [] h = refl

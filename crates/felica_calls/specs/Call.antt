@@ -6,7 +6,8 @@ use mathlib.Core.Bool.{cond}
 use mathlib.Core.List.{List}
 use lib.ListN.{length, drop}
 use lib.Dec.{eqb}
-use Rattle.felica_calls.specs.Field.{fieldOf, behindField, nextField, behindNext, isByte}
+use Rattle.felica_text.specs.Text.{text}
+use Rattle.felica_calls.specs.Field.{fieldOf, behindField, nextField, behindNext, isByte, isName}
 use Rattle.felica_calls.specs.Bytes.{Decoded, readBytes, readLast}
 use Rattle.felica_calls.specs.Source.{readSource, behindSource}
 use Rattle.felica_calls.specs.Sizes.{readSizes}
@@ -20,7 +21,7 @@ use Rattle.felica_calls.specs.declared.source.SourceRead.the-variants.{S
 use Rattle.felica_calls.specs.declared.sizes.SizesRead.{SizesRead}
 use Rattle.felica_calls.specs.declared.sizes.SizesRead.the-variants.{Sizes as TheSizes, Wrong as WrongSizes}
 use Rattle.felica_calls.specs.declared.call.Call.{Call}
-use Rattle.felica_calls.specs.declared.call.Call.the-variants.{Parse, List as ListCall, Write, Wrong}
+use Rattle.felica_calls.specs.declared.call.Call.the-variants.{Parse, Long, List as ListCall, Write, Wrong}
 
 -- a call, and what the lent buffer holds
 pub record Called : Type 0 where
@@ -47,6 +48,10 @@ askedOf ask (WrongSource fault) s buffer = called (Wrong fault) buffer
 abbrev pub parseOf : Source → List ℕ → List ℕ → Called
 parseOf source s buffer = withBytes (Parse source) (readLast s buffer)
 
+-- of how many elements were long: the call of the parser behind the name
+abbrev pub longOf : Source → List ℕ → List ℕ → Called
+longOf source s buffer = withBytes (Long source) (readLast s buffer)
+
 -- of the list reader: the bytes, and behind them the lengths of its buffers, which are looked at first
 abbrev pub listWith : Source → SizesRead → List ℕ → List ℕ → Called
 listWith source (TheSizes z) s buffer = withBytes (λ n. ListCall source n z) (readBytes (nextField s) buffer)
@@ -61,11 +66,13 @@ readCall line buffer =
     cond (eqb (length line) 0) (called (Wrong EmptyLine) buffer)
     (cond (isByte (code "L") (fieldOf line)) (askedOf listOf (readSource (drop 1 (behindField line))) (drop 1 (behindField line)) buffer)
     (cond (isByte (code "W") (fieldOf line)) (called (writeOf (behindField line)) buffer)
-    (askedOf parseOf (readSource line) line buffer)))
+    (cond (isName (text "LONG") (fieldOf line)) (askedOf longOf (readSource (drop 1 (behindField line))) (drop 1 (behindField line)) buffer)
+    (askedOf parseOf (readSource line) line buffer))))
 
 -- the bytes of a call
 abbrev pub countOf : Call → ℕ
 countOf (Parse source n) = n
+countOf (Long source n) = n
 countOf (ListCall source n z) = n
 countOf (Write size c) = 0
 countOf (Wrong fault) = 0

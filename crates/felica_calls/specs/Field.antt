@@ -2,10 +2,11 @@
 -- Assumes nothing.
 use Prim.Native.Nat.{ℕ}
 use Prim.Native.Char.{code}
-use mathlib.Core.Bool.{Bool, false}
+use mathlib.Core.Bool.{Bool, true, false}
 use mathlib.Core.List.{List, [], _∷_}
 use lib.ListN.{length, drop}
 use lib.Dec.{eqb}
+use Rattle.felica_format.specs.Basic.{_and_}
 use Rattle.felica_text.specs.Text.{before}
 
 -- the first field, and what follows it: nothing, or the space before the next field
@@ -27,3 +28,10 @@ abbrev pub isByte : ℕ → List ℕ → Bool
 isByte b [] = false
 isByte b (d ∷ []) = eqb d b
 isByte b (d ∷ e ∷ ds) = false
+
+-- whether a field is this name
+unfoldable pub isName : List ℕ → List ℕ → Bool
+isName [] [] = true
+isName [] (d ∷ ds) = false
+isName (k ∷ ks) [] = false
+isName (k ∷ ks) (d ∷ ds) = eqb d k and isName ks ds

@@ -3,7 +3,7 @@ ghost use mathlib.Core.Path.{_≡_};
 ghost use Rattle.felica_calls.specs.Source.{readSource};
 ghost use Rattle.felica_calls.specs.Field.{nextField};
 ghost use Rattle.felica_calls.specs.Bytes.{readBytes};
-ghost use Rattle.felica_calls.specs.Call.{called, readCall, askedOf, parseOf, listOf, withBytes};
+ghost use Rattle.felica_calls.specs.Call.{called, readCall, askedOf, parseOf, longOf, listOf, withBytes};
 use crate::bytes::Bytes;
 use crate::bytes::read_bytes;
 use crate::bytes::read_last;
@@ -13,6 +13,7 @@ use crate::field::behind_next;
 use crate::field::behind_space;
 use crate::field::field_of;
 use crate::field::is_byte;
+use crate::field::is_name;
 use crate::field::next_field;
 use crate::sizes::Sizes;
 use crate::sizes::SizesRead;
@@ -27,6 +28,8 @@ use crate::write::read_write;
 pub enum Call {
     // To parse so many bytes.
     Parse(Source, usize),
+    // To tell how many of their elements were long.
+    Long(Source, usize),
     // To write their lists to buffers of these lengths.
     List(Source, usize, Sizes),
     // To write a command of this code to a buffer of this size. Its fields stand behind the code.
@@ -46,6 +49,9 @@ pub fn read_call(line: &[u8], bytes: &mut [u8]) -> Call
     }
     if is_byte(name, b'W') {
         return read_write(behind_field(line));
+    }
+    if is_name(name, b"LONG") {
+        return read_long(behind_space(behind_field(line)), bytes);
     }
     read_parse(line, bytes)
 }
@@ -67,6 +73,27 @@ fn parse_last(source: Source, rest: &[u8], bytes: &mut [u8]) -> Call
     let read = read_last(rest, bytes);
     match read {
         Bytes::Count(count) => Call::Parse(source, count),
+        Bytes::Wrong(fault) => Call::Wrong(fault),
+    }
+}
+
+// A call of the parser behind the name.
+fn read_long(text: &[u8], bytes: &mut [u8]) -> Call
+    ensures { λ r. ⌜ called r (now (bytes .exit)) ≡ askedOf longOf (readSource (now (text .entry))) (now (text .entry)) (now (bytes .entry)) ⌝ }
+{
+    let found = read_source(text);
+    match found {
+        SourceRead::Source(source) => long_last(source, behind_source(text, source), bytes),
+        SourceRead::Wrong(fault) => Call::Wrong(fault),
+    }
+}
+
+fn long_last(source: Source, rest: &[u8], bytes: &mut [u8]) -> Call
+    ensures { λ r. ⌜ called r (now (bytes .exit)) ≡ longOf source (now (rest .entry)) (now (bytes .entry)) ⌝ }
+{
+    let read = read_last(rest, bytes);
+    match read {
+        Bytes::Count(count) => Call::Long(source, count),
         Bytes::Wrong(fault) => Call::Wrong(fault),
     }
 }

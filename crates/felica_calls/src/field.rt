@@ -1,7 +1,7 @@
 // The fields of a line, each behind one space.
 ghost use mathlib.Core.Path.{_≡_};
 ghost use lib.ListN.{drop};
-ghost use Rattle.felica_calls.specs.Field.{fieldOf, behindField, nextField, behindNext, isByte};
+ghost use Rattle.felica_calls.specs.Field.{fieldOf, behindField, nextField, behindNext, isByte, isName};
 use felica_text::find::find;
 
 // The first field.
@@ -50,4 +50,21 @@ pub fn is_byte(field: &[u8], byte: u8) -> bool
         return false;
     }
     field[0] == byte
+}
+
+// Whether a field is this name.
+pub(crate) fn is_name(field: &[u8], name: &[u8]) -> bool
+    ensures { λ r. ⌜ r ≡ isName (now (name .entry)) (now (field .entry)) ⌝ }
+{
+    if field.len() != name.len() {
+        return false;
+    }
+    let mut i = 0;
+    while i < name.len() {
+        if field[i] != name[i] {
+            return false;
+        }
+        i += 1;
+    }
+    true
 }

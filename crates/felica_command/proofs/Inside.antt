@@ -10,17 +10,17 @@ use lib.Seq.{drop-drop, length-take-le}
 use lib.Dec.{ltb}
 use borrow.Author.Tests.{ltb-false}
 use Rattle.felica_format.specs.Basic.{Step, taken, refuse, bind, refuseIf}
-use Rattle.felica_format.specs.Command.{Command, Element, EndFields}
+use Rattle.felica_format.specs.Command.{Command, Element, Formed, EndFields}
 use Rattle.felica_format.specs.Layout.{Selector, noSelector, typeByte, anyByte, Codes, noCodes, _to_, Ending, bytes, word, words, reserved, polling, parameter}
 use Rattle.felica_format.specs.Layout.{Behind, nothing, ignoredBytes, aPackage, Layout, layoutOf, classOf}
-use Rattle.felica_format.specs.Read.{readBytes, readIdm, readSelector, readCount, wordsOf, readWords, readCodes, readShort, readLong, readElement, readEach}
+use Rattle.felica_format.specs.Read.{Counted, readBytes, readIdm, readSelector, readCount, wordsOf, readWords, readCodes, readShort, readLong, readElement, readEach}
 use Rattle.felica_format.specs.Read.{readElements, readData, sizeOf, readValues, tooLong, readEnding, readPackage, readBody, answerOf}
 use Rattle.felica_format.specs.Read.{readPlainAs, readSecureAs, readPayload, readSecure}
 use Rattle.felica_format.specs.declared.classes.Class.{Class}
 use Rattle.felica_format.specs.declared.classes.Class.the-variants.{Plain, Secure, Unknown}
 use Rattle.felica_format.proofs.Steps.{taken-value, taken-rest, none-taken, refuseIf-passed, refuseIf-taken, bind-taken}
 use Rattle.felica_command.specs.declared.command.Part.{Part}
-use Rattle.felica_command.specs.Meaning.{elementsAt}
+use Rattle.felica_command.specs.Meaning.{formedAt, elementsAt}
 use Rattle.felica_command.specs.Places.{idmSize, selectorSize, codesPart, codesSize, elementSize, elementsSize, blocksPart, blocksSize, dataPart}
 use Rattle.felica_command.specs.Places.{packagePart, layoutPlaces, noPlaces, readPlaces}
 use Rattle.felica_command.specs.Places.{ElementsInside, Inside, PayloadInside, SecureInside}
@@ -78,18 +78,18 @@ codes-leaves missing outside (least to greatest) l v r h =
     let list = words-leave (count .0) (count .1) v r (count .3) in
     rw (list .1) (leaves-then 1 (2 * count .0) l (count .1) r (count-leaves missing outside least greatest l (count .0) (count .1) (count .2)) (list .0))
 
-long-leaves : (head : ℕ) (l : List ℕ) (e : Element) (r : List ℕ) → readLong head l ≡ taken e r → Leaves 3 (head ∷ l) r
+long-leaves : (head : ℕ) (l : List ℕ) (e : Formed) (r : List ℕ) → readLong head l ≡ taken e r → Leaves 3 (head ∷ l) r
 unfolding readLong
 long-leaves head [] e r h = absurd (none-taken h)
 long-leaves head (a ∷ []) e r h = absurd (none-taken h)
 long-leaves head (a ∷ b ∷ l) e r h = (sym (taken-rest h), omega arith)
 
-short-leaves : (head : ℕ) (l : List ℕ) (e : Element) (r : List ℕ) → readShort head l ≡ taken e r → Leaves 2 (head ∷ l) r
+short-leaves : (head : ℕ) (l : List ℕ) (e : Formed) (r : List ℕ) → readShort head l ≡ taken e r → Leaves 2 (head ∷ l) r
 unfolding readShort
 short-leaves head [] e r h = absurd (none-taken h)
 short-leaves head (a ∷ l) e r h = (sym (taken-rest h), omega arith)
 
-element-leaves : (l : List ℕ) (e : Element) (r : List ℕ) → readElement l ≡ taken e r → Leaves (elementSize (getD l 0 0)) l r
+element-leaves : (l : List ℕ) (e : Formed) (r : List ℕ) → readElement l ≡ taken e r → Leaves (elementSize (getD l 0 0)) l r
 unfolding readElement
 element-leaves [] e r h = absurd (none-taken h)
 element-leaves (head ∷ l) e r h = go (ltb head 128) h
@@ -98,7 +98,7 @@ element-leaves (head ∷ l) e r h = go (ltb head 128) h
     go true t = long-leaves head l e r t
     go false t = short-leaves head l e r t
 
-pub each-leaves : (n : ℕ) (l : List ℕ) (es : List Element) (r : List ℕ) → readEach n l ≡ taken es r → Leaves (elementsSize n l) l r × (length es ≡ n)
+pub each-leaves : (n : ℕ) (l : List ℕ) (es : List Formed) (r : List ℕ) → readEach n l ≡ taken es r → Leaves (elementsSize n l) l r × (length es ≡ n)
 unfolding readEach elementsSize
 each-leaves zero l es r h = ((sym (taken-rest h), omega arith), ap length (sym (taken-value h)))
 each-leaves (suc n) l es r h =
@@ -110,29 +110,29 @@ each-leaves (suc n) l es r h =
     (leaves-then (elementSize (getD l 0 0)) (elementsSize n (first .1)) l (first .1) (rest .1) one (more .0)) in
     ((sym (taken-rest (rest .3)) ∙ size .0, size .1), ap length (sym (taken-value (rest .3))) ∙ ap suc (more .1))
 
-long-whole : (head a b : ℕ) (l : List ℕ) → (e : Element) × (readLong head (a ∷ b ∷ l) ≡ taken e l)
+long-whole : (head a b : ℕ) (l : List ℕ) → (e : Formed) × (readLong head (a ∷ b ∷ l) ≡ taken e l)
 unfolding readLong
 long-whole head a b l = (_, refl)
 
-short-whole : (head a : ℕ) (l : List ℕ) → (e : Element) × (readShort head (a ∷ l) ≡ taken e l)
+short-whole : (head a : ℕ) (l : List ℕ) → (e : Formed) × (readShort head (a ∷ l) ≡ taken e l)
 unfolding readShort
 short-whole head a l = (_, refl)
 
 -- Elements whose bytes are there are read, as many as there should be.
-element-whole : (l : List ℕ) → elementSize (getD l 0 0) ≤ length l → (e : Element) × (readElement l ≡ taken e (drop (elementSize (getD l 0 0)) l))
+element-whole : (l : List ℕ) → elementSize (getD l 0 0) ≤ length l → (e : Formed) × (readElement l ≡ taken e (drop (elementSize (getD l 0 0)) l))
 unfolding readElement
 element-whole [] h = absurd (omega arith)
 element-whole (head ∷ l) h = go (ltb head 128) l h
   where
     go : (q : Bool) (l : List ℕ) → cond q 3 2 ≤ length (head ∷ l)
-        → (e : Element) × (cond q (readLong head l) (readShort head l) ≡ taken e (drop (cond q 3 2) (head ∷ l)))
+        → (e : Formed) × (cond q (readLong head l) (readShort head l) ≡ taken e (drop (cond q 3 2) (head ∷ l)))
     go true [] h = absurd (omega arith)
     go true (a ∷ []) h = absurd (omega arith)
     go true (a ∷ b ∷ l) h = long-whole head a b l
     go false [] h = absurd (omega arith)
     go false (a ∷ l) h = short-whole head a l
 
-pub each-whole : (n : ℕ) (l : List ℕ) → elementsSize n l ≤ length l → (es : List Element) × (readEach n l ≡ taken es (drop (elementsSize n l) l))
+pub each-whole : (n : ℕ) (l : List ℕ) → elementsSize n l ≤ length l → (es : List Formed) × (readEach n l ≡ taken es (drop (elementsSize n l) l))
 unfolding readEach elementsSize bind
 each-whole zero l h = ([], refl)
 each-whole (suc n) l h =
@@ -144,13 +144,13 @@ each-whole (suc n) l h =
 elements-counted : (s : List ℕ) (p : Part) → ElementsInside s p → length (elementsAt s p) ≡ p .count
 elements-counted s p h =
     let whole = each-whole (p .count) (drop (p .start) s) (rw length-drop (omega arith)) in
-    rw (whole .1) (each-leaves (p .count) (drop (p .start) s) (whole .0) _ (whole .1) .1)
+    length-map (formedAt s p) (λ f. f .element) ∙ rw (whole .1) (each-leaves (p .count) (drop (p .start) s) (whole .0) _ (whole .1) .1)
 
 -- so many block numbers, places or modes
 pub values-counted : (s : List ℕ) (p : Part) (value : Element → ℕ) → ElementsInside s p → length (map value (elementsAt s p)) ≡ p .count
 values-counted s p value inside = length-map (elementsAt s p) value ∙ elements-counted s p inside
 
-elements-leaves : (missing outside : ℕ) (b : Bool) (l : List ℕ) (es : List Element) (r : List ℕ) → readElements missing outside b l ≡ taken es r
+elements-leaves : (missing outside : ℕ) (b : Bool) (l : List ℕ) (es : List Formed) (r : List ℕ) → readElements missing outside b l ≡ taken es r
     → Leaves (blocksSize b l 0 (length es)) l r
 unfolding readElements
 elements-leaves missing outside false l es r h = (sym (taken-rest h), omega arith)
@@ -217,8 +217,8 @@ pub took : {A B X : Type 0} (m : Step A) (next : A → List ℕ → Step B) {b :
     → ((a : A) (t : List ℕ) → m ≡ taken a t → next a t ≡ taken b r → X) → X
 took m next h go = let q = bind-taken m next h in go (q .0) (q .1) (q .2) (q .3)
 
-body-inside : (code : ℕ) (l : Layout) (at : ℕ) (s body : List ℕ) (c : Command) (rest : List ℕ) → Leaves at s body → readBody code l body ≡ taken c rest
-    → (c .code ≡ code) × Inside s (layoutPlaces l at s c)
+body-inside : (code : ℕ) (l : Layout) (at : ℕ) (s body : List ℕ) (c : Counted) (rest : List ℕ) → Leaves at s body → readBody code l body ≡ taken c rest
+    → (c .command .code ≡ code) × Inside s (layoutPlaces l at s (c .command))
 unfolding readBody layoutPlaces
 body-inside code l at s body c rest here h =
     took _ _ h λ idm s₁ h₁ k₁.
@@ -234,17 +234,18 @@ body-inside code l at s body c rest here h =
     let p₃ = leaves-then _ _ s s₂ s₃ p₂ (codes-leaves 9 10 (l .first) s₂ first s₃ h₃) in
     let p₄ = leaves-then _ _ s s₃ s₄ p₃ (codes-leaves 11 12 (l .second) s₃ second s₄ h₄) in
     let here₅ = elements-leaves _ _ (l .elements) s₄ elements s₅ h₅ in
-    let n : length (map (λ (e : Element). e .number) elements) ≡ length elements = length-map elements (λ (e : Element). e .number) in
-    let size = ap (blocksSize (l .elements) s₄ 0) (sym n) ∙ blocks-at (l .elements) s s₄ _ (length (map (λ (e : Element). e .number) elements)) (p₄ .0) in
+    let ns : List ℕ = map (λ (e : Element). e .number) (map (λ (f : Formed). f .element) elements) in
+    let n : length ns ≡ length elements = length-map (map (λ (f : Formed). f .element) elements) (λ (e : Element). e .number) ∙ length-map elements (λ (f : Formed). f .element) in
+    let size = ap (blocksSize (l .elements) s₄ 0) (sym n) ∙ blocks-at (l .elements) s s₄ _ (length ns) (p₄ .0) in
     let p₅ = leaves-then _ _ s s₄ s₅ p₄ (subst (λ (k : ℕ). Leaves k s₄ s₅) size here₅) in
     let p₆ = leaves-then _ _ s s₅ s₆ p₅ (data-leaves (l .blockData) (length elements) s₅ blockData s₆ h₆) in
     let p₇ = leaves-then _ _ s s₆ s₇ p₆ (ending-leaves (l .ending) (l .behind) s₆ values s₇ h₇) in
-    subst (λ (x : Command). (x .code ≡ code) × Inside s (layoutPlaces l at s x)) (taken-value k₈) (
+    subst (λ (x : Counted). (x .command .code ≡ code) × Inside s (layoutPlaces l at s (x .command))) (taken-value k₈) (
       refl,
       (
         codes-inside (l .first) s _ (length first) (p₃ .1),
         codes-inside (l .second) s _ (length second) (p₄ .1),
-        blocks-inside (l .elements) s _ (length (map (λ (e : Element). e .number) elements)) (p₅ .1),
+        blocks-inside (l .elements) s _ (length ns) (p₅ .1),
         data-inside (l .blockData) s _ (length blockData) (p₆ .1),
         package-inside (l .behind) s s₇ issuePackage s₈ _ h₈ p₇,
       ),
@@ -255,11 +256,11 @@ pub none-inside : (s : List ℕ) → Inside s noPlaces
 unfolding elementsSize
 none-inside s = (omega arith, omega arith, omega arith, omega arith, omega arith)
 
-step-inside : (code at : ℕ) (s body : List ℕ) (x : Step Command) → readBody code (layoutOf code) body ≡ x → Leaves at s body
+step-inside : (code at : ℕ) (s body : List ℕ) (x : Step Counted) → readBody code (layoutOf code) body ≡ x → Leaves at s body
     → Inside s (readPlaces at s (answerOf code x))
 step-inside code at s body (taken c rest) h here =
     let q = body-inside code (layoutOf code) at s body c rest here h in
-    subst (λ (k : ℕ). Inside s (layoutPlaces (layoutOf k) at s c)) (sym (q .0)) (q .1)
+    subst (λ (k : ℕ). Inside s (layoutPlaces (layoutOf k) at s (c .command))) (sym (q .0)) (q .1)
 step-inside code at s body (refuse n) h here = none-inside s
 
 plain-inside : (k : Class) (code : ℕ) (body : List ℕ) → Inside (code ∷ body) (readPlaces 1 (code ∷ body) (readPlainAs k code body))

@@ -129,22 +129,22 @@ kind-back (RegisterArea a b) h = refl
 kind-back (RegisterService a b) h = refl
 kind-back ChangeSystemBlock h = refl
 
-abbrev parsed : Answer → List ℕ → List ℕ → Parsed
-parsed a idm challenge = record { answer = a; idm = idm; challenge = challenge }
+abbrev parsed : Answer → List ℕ → List ℕ → ℕ → Parsed
+parsed a idm challenge long = record { answer = a; idm = idm; challenge = challenge; long = long }
 
-parsed-same : {a a′ : Answer} {idm idm′ challenge challenge′ : List ℕ} → a ≡ a′ → idm ≡ idm′ → challenge ≡ challenge′
-    → parsed a idm challenge ≡ parsed a′ idm′ challenge′
-parsed-same p q r = rw (p, q, r)
+parsed-same : {a a′ : Answer} {idm idm′ challenge challenge′ : List ℕ} {long long′ : ℕ} → a ≡ a′ → idm ≡ idm′ → challenge ≡ challenge′ → long ≡ long′
+    → parsed a idm challenge long ≡ parsed a′ idm′ challenge′ long′
+parsed-same p q r u = rw (p, q, r, u)
 
-commands-one : (s idm idm′ challenge challenge′ : List ℕ) (k k′ : FelicaStandardCommand)
+commands-one : (s idm idm′ challenge challenge′ : List ℕ) (long long′ : ℕ) → long ≡ long′ → (k k′ : FelicaStandardCommand)
     → commandIs s idm challenge (fieldsOf k) ≡ commandIs s idm′ challenge′ (fieldsOf k′) → placesIn (fieldsOf k) ≡ placesIn (fieldsOf k′)
     → fieldsOf k .property ≡ propertyOf (propertyIndex (fieldsOf k .property)) → fieldsOf k′ .property ≡ propertyOf (propertyIndex (fieldsOf k′ .property))
-    → parsed (AnswerCommand k) idm challenge ≡ parsed (AnswerCommand k′) idm′ challenge′
+    → parsed (AnswerCommand k) idm challenge long ≡ parsed (AnswerCommand k′) idm′ challenge′ long′
 unfolding kindOf
-commands-one s idm idm′ challenge challenge′ k k′ e at h h′ =
+commands-one s idm idm′ challenge challenge′ long long′ count k k′ e at h h′ =
     let same = kind-same (ap (λ (c : Command). c .code) e) (ap (λ (c : Command). c .selector) e) at (ap (λ (c : Command). c .number) e)
     (ap (λ (c : Command). c .index) e) (ap (λ (c : Command). c .option) e) (ap (λ (c : Command). c .choice) e) in
-    parsed-same (ap AnswerCommand (sym (kind-back k h) ∙ same ∙ kind-back k′ h′)) (ap (λ (c : Command). c .idm) e) (ap (λ (c : Command). c .challenge) e)
+    parsed-same (ap AnswerCommand (sym (kind-back k h) ∙ same ∙ kind-back k′ h′)) (ap (λ (c : Command). c .idm) e) (ap (λ (c : Command). c .challenge) e) count
 
 refusals-one : (w w′ : Refusal) → refusalIs w ≡ refusalIs w′ → w ≡ w′
 refusals-one (Number n) (Number m) e = cc
@@ -152,21 +152,22 @@ refusals-one (Number n) (OfCommand m code) e = let z : _≡_ {A = ℕ} 0 1 = cc 
 refusals-one (OfCommand n code) (Number m) e = let z : _≡_ {A = ℕ} 0 1 = cc in absurd (omega arith)
 refusals-one (OfCommand n code) (OfCommand m code′) e = cc
 
-no-refusal : (c : Command) (w : Refusal) → gives c ≡ refusalIs w → ⊥
-no-refusal c (Number n) e = let z : _≡_ {A = ℕ} 0 1 = cc in omega arith
-no-refusal c (OfCommand n code) e = let z : _≡_ {A = ℕ} 0 1 = cc in omega arith
+no-refusal : (c : Command) (long : ℕ) (w : Refusal) → gives c long ≡ refusalIs w → ⊥
+no-refusal c long (Number n) e = let z : _≡_ {A = ℕ} 0 1 = cc in omega arith
+no-refusal c long (OfCommand n code) e = let z : _≡_ {A = ℕ} 0 1 = cc in omega arith
 
-answers-one : (s idm idm′ challenge challenge′ : List ℕ) (a a′ : Answer) → answerIs s idm challenge a ≡ answerIs s idm′ challenge′ a′
-    → answerPlaces a ≡ answerPlaces a′ → CanonicalAnswer idm challenge a → CanonicalAnswer idm′ challenge′ a′
-    → parsed a idm challenge ≡ parsed a′ idm′ challenge′
-answers-one s idm idm′ challenge challenge′ (AnswerCommand k) (AnswerCommand k′) e at h h′ =
+answers-one : (s idm idm′ challenge challenge′ : List ℕ) (long long′ : ℕ) (a a′ : Answer) → answerIs s idm challenge long a ≡ answerIs s idm′ challenge′ long′ a′
+    → answerPlaces a ≡ answerPlaces a′ → CanonicalAnswer idm challenge long a → CanonicalAnswer idm′ challenge′ long′ a′
+    → parsed a idm challenge long ≡ parsed a′ idm′ challenge′ long′
+answers-one s idm idm′ challenge challenge′ long long′ (AnswerCommand k) (AnswerCommand k′) e at h h′ =
     let same : commandIs s idm challenge (fieldsOf k) ≡ commandIs s idm′ challenge′ (fieldsOf k′) = cc in
-    commands-one s idm idm′ challenge challenge′ k k′ same at h h′
-answers-one s idm idm′ challenge challenge′ (AnswerCommand k) (AnswerRefused w) e at h h′ = absurd (no-refusal _ w e)
-answers-one s idm idm′ challenge challenge′ (AnswerRefused w) (AnswerCommand k) e at h h′ = absurd (no-refusal _ w (sym e))
-answers-one s idm idm′ challenge challenge′ (AnswerRefused w) (AnswerRefused w′) e at h h′ =
-    parsed-same (ap AnswerRefused (refusals-one w w′ e)) (h .0 ∙ sym (h′ .0)) (h .1 ∙ sym (h′ .1))
+    let count : long ≡ long′ = cc in
+    commands-one s idm idm′ challenge challenge′ long long′ count k k′ same at h h′
+answers-one s idm idm′ challenge challenge′ long long′ (AnswerCommand k) (AnswerRefused w) e at h h′ = absurd (no-refusal _ _ w e)
+answers-one s idm idm′ challenge challenge′ long long′ (AnswerRefused w) (AnswerCommand k) e at h h′ = absurd (no-refusal _ _ w (sym e))
+answers-one s idm idm′ challenge challenge′ long long′ (AnswerRefused w) (AnswerRefused w′) e at h h′ =
+    parsed-same (ap AnswerRefused (refusals-one w w′ e)) (h .0 ∙ sym (h′ .0)) (h .1 ∙ sym (h′ .1)) (h .2 ∙ sym (h′ .2))
 
 pub one-account : OneAccount
 one-account s at reading r t (m, p, c) (m′, p′, c′) =
-    answers-one s (r .idm) (t .idm) (r .challenge) (t .challenge) (r .answer) (t .answer) (m ∙ sym m′) (p ∙ sym p′) c c′
+    answers-one s (r .idm) (t .idm) (r .challenge) (t .challenge) (r .long) (t .long) (r .answer) (t .answer) (m ∙ sym m′) (p ∙ sym p′) c c′

@@ -13,8 +13,8 @@ use Rattle.felica_command.proofs.Inside.{none-inside}
 -- a refusal meets every clause
 pub refusal-account : (s : List ℕ) (at n : ℕ) (code : Option ℕ) (reading : Reading) (r : Parsed) → r ≡ refusal n code → reading ≡ refused n code
     → Account s at reading r
-refusal-account s at n none reading r e is = rw (e, is) (refl, refl, (refl, refl))
-refusal-account s at n (some code) reading r e is = rw (e, is) (refl, refl, (refl, refl))
+refusal-account s at n none reading r e is = rw (e, is) (refl, refl, (refl, refl, refl))
+refusal-account s at n (some code) reading r e is = rw (e, is) (refl, refl, (refl, refl, refl))
 
 -- all that an entry promises
 abbrev pub Settled : List ℕ → ℕ → Reading → Parsed → Type 0

@@ -9,11 +9,11 @@ use lib.ListN.{length, take, drop, length-map}
 use lib.Seq.{take-all, length-take-le}
 use borrow.Author.Tests.{ltb-false}
 use Rattle.felica_format.specs.Basic.{taken}
-use Rattle.felica_format.specs.Command.{Element}
+use Rattle.felica_format.specs.Command.{Element, Formed}
 use Rattle.felica_format.specs.Read.{readData}
 use Rattle.felica_format.proofs.Steps.{refuseIf-passed}
 use Rattle.felica_command.proofs.Inside.{wordsOf-length}
-use Rattle.felica_command.specs.Meaning.{part, codesAt, elementsAt, bytesAt}
+use Rattle.felica_command.specs.Meaning.{part, codesAt, formedAt, elementsAt, bytesAt}
 use Rattle.felica_command.specs.Places.{places, elementsSize}
 use Rattle.felica_command.specs.declared.command.Part.{Part}
 
@@ -26,9 +26,9 @@ part-eq p n m a b = ap (λ (x : ℕ). part x (p .count)) a ∙ ap (part n) b
 pub codes-part : (s : List ℕ) (p : Part) (n : ℕ) → p .start ≡ n → p ≡ part n (length (codesAt s p))
 codes-part s p n a = part-eq p n _ a (sym (wordsOf-length (p .count) (drop (p .start) s)))
 
-pub elements-part : (s : List ℕ) (p : Part) (n : ℕ) → p .start ≡ n → length (elementsAt s p) ≡ p .count
+pub elements-part : (s : List ℕ) (p : Part) (n : ℕ) → p .start ≡ n → length (formedAt s p) ≡ p .count
     → p ≡ part n (length (map (λ (e : Element). e .number) (elementsAt s p)))
-elements-part s p n a b = part-eq p n _ a (sym (length-map (elementsAt s p) (λ (e : Element). e .number) ∙ b))
+elements-part s p n a b = part-eq p n _ a (sym (length-map (elementsAt s p) (λ (e : Element). e .number) ∙ length-map (formedAt s p) (λ (f : Formed). f .element) ∙ b))
 
 -- data that were taken are all there
 pub data-part : (s : List ℕ) (p : Part) (at blocks n : ℕ) (v r : List ℕ) → readData true blocks (drop at s) ≡ taken v r → p ≡ part at (16 * blocks) → at ≡ n
@@ -47,8 +47,8 @@ pub package-part : (s : List ℕ) (p : Part) (at n : ℕ) → p ≡ part at (len
 package-part s p at n is e = is ∙ ap (λ (x : ℕ). part x (length (drop at s))) e
 
 -- what stands behind the elements
-pub behind-blocks : (s : List ℕ) (p : Part) (prev next n : ℕ) → length (elementsAt s p) ≡ p .count → next ≡ prev + 1 + elementsSize (p .count) (drop (prev + 1) s)
+pub behind-blocks : (s : List ℕ) (p : Part) (prev next n : ℕ) → length (formedAt s p) ≡ p .count → next ≡ prev + 1 + elementsSize (p .count) (drop (prev + 1) s)
     → prev ≡ n → next ≡ n + (1 + elementsSize (length (map (λ (e : Element). e .number) (elementsAt s p))) (drop (n + 1) s))
 behind-blocks s p prev next n counted e q =
-    let m : length (map (λ (x : Element). x .number) (elementsAt s p)) ≡ p .count = length-map (elementsAt s p) (λ (x : Element). x .number) ∙ counted in
+    let m : length (map (λ (x : Element). x .number) (elementsAt s p)) ≡ p .count = length-map (elementsAt s p) (λ (x : Element). x .number) ∙ length-map (formedAt s p) (λ (f : Formed). f .element) ∙ counted in
     rw (← q, m) (omega (arith, e))

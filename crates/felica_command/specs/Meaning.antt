@@ -2,11 +2,11 @@
 -- Assumes nothing.
 use mathlib.Core.Path.{_≡_}
 use Prim.Native.Nat.{ℕ}
-use mathlib.Core.List.{List, []}
+use mathlib.Core.List.{List, [], map}
 use mathlib.Core.Option.{Option, none, some}
 use lib.ListN.{take, drop}
 use Rattle.felica_format.specs.Basic.{Step, taken, refuse, zeros}
-use Rattle.felica_format.specs.Command.{Command, Element, endFields, commandOf}
+use Rattle.felica_format.specs.Command.{Command, Element, Formed, endFields, commandOf}
 use Rattle.felica_format.specs.Read.{wordsOf, readEach, Answer as Reading, gives, refused}
 use Rattle.felica_command.specs.Types.{propertyOf, propertyIndex, nodePropertyByte, encryptionByte, packetByte}
 use Rattle.felica_command.specs.declared.types.ContainerProperty.{ContainerProperty}
@@ -45,8 +45,11 @@ abbrev pub valueOr : {A : Type 0} → A → Step A → A
 valueOr d (taken a rest) = a
 valueOr d (refuse n) = d
 
+abbrev pub formedAt : List ℕ → Part → List Formed
+formedAt s p = valueOr [] (readEach (p .count) (drop (p .start) s))
+
 abbrev pub elementsAt : List ℕ → Part → List Element
-elementsAt s p = valueOr [] (readEach (p .count) (drop (p .start) s))
+elementsAt s p = map (λ f. f .element) (formedAt s p)
 
 abbrev pub bytesAt : List ℕ → Part → List ℕ
 bytesAt s p = take (p .count) (drop (p .start) s)
@@ -143,25 +146,25 @@ abbrev pub refusalIs : Refusal → Reading
 refusalIs (Number n) = refused n none
 refusalIs (OfCommand n code) = refused n (some code)
 
-abbrev pub answerIs : List ℕ → List ℕ → List ℕ → Answer → Reading
-answerIs s idm challenge (AnswerCommand kind) = gives (commandIs s idm challenge (fieldsOf kind))
-answerIs s idm challenge (AnswerRefused why) = refusalIs why
+abbrev pub answerIs : List ℕ → List ℕ → List ℕ → ℕ → Answer → Reading
+answerIs s idm challenge long (AnswerCommand kind) = gives (commandIs s idm challenge (fieldsOf kind)) long
+answerIs s idm challenge long (AnswerRefused why) = refusalIs why
 
 -- what a result says of the payload s
 abbrev pub meaning : List ℕ → Parsed → Reading
-meaning s r = answerIs s (r .idm) (r .challenge) (r .answer)
+meaning s r = answerIs s (r .idm) (r .challenge) (r .long) (r .answer)
 
 -- What `meaning` leaves open is pinned: a property is the one of its number, so that `Unknown` never holds 0 or 1, and beside a refusal the arrays are zero.
-abbrev pub CanonicalAnswer : List ℕ → List ℕ → Answer → Type 0
-CanonicalAnswer idm challenge (AnswerCommand kind) = fieldsOf kind .property ≡ propertyOf (propertyIndex (fieldsOf kind .property))
-CanonicalAnswer idm challenge (AnswerRefused why) = (idm ≡ zeros 8) × (challenge ≡ zeros 16)
+abbrev pub CanonicalAnswer : List ℕ → List ℕ → ℕ → Answer → Type 0
+CanonicalAnswer idm challenge long (AnswerCommand kind) = fieldsOf kind .property ≡ propertyOf (propertyIndex (fieldsOf kind .property))
+CanonicalAnswer idm challenge long (AnswerRefused why) = (idm ≡ zeros 8) × (challenge ≡ zeros 16) × (long ≡ 0)
 
 abbrev pub Canonical : Parsed → Type 0
-Canonical r = CanonicalAnswer (r .idm) (r .challenge) (r .answer)
+Canonical r = CanonicalAnswer (r .idm) (r .challenge) (r .long) (r .answer)
 
 -- the result that refuses
 abbrev pub refusedBy : Refusal → Parsed
-refusedBy why = record { answer = AnswerRefused why; idm = zeros 8; challenge = zeros 16 }
+refusedBy why = record { answer = AnswerRefused why; idm = zeros 8; challenge = zeros 16; long = 0 }
 
 abbrev pub refusal : ℕ → Option ℕ → Parsed
 refusal n none = refusedBy (Number n)

@@ -111,7 +111,7 @@ layoutPlaces l at s c =
 
 -- the places that an answer settles in the payload s, whose body begins at `at`: 1, behind the code byte, of a plain one, 0 of a secure one
 abbrev pub readPlaces : ℕ → List ℕ → Reading → Places
-readPlaces at s (gives c) = layoutPlaces (layoutOf (c .code)) at s c
+readPlaces at s (gives c long) = layoutPlaces (layoutOf (c .code)) at s c
 readPlaces at s (refused n code) = noPlaces
 
 -- The complete account of a result r for the payload s, whose body begins at `at`, where the definitions say `reading`.

@@ -173,6 +173,8 @@ pub struct Parsed {
     pub idm: [u8; 8],
     // 40 and 42: the challenge. 10 and 12: their challenge of 8 bytes, then eight zeros. 80: the issue id, then the issue parameter.
     pub challenge: [u8; 16],
+    // How many elements were long; 0 where the command has none.
+    pub long: u8,
 }
 
 impl Parsed {
@@ -183,6 +185,7 @@ impl Parsed {
             answer: Answer::Refused(why),
             idm: [0u8; 8],
             challenge: [0u8; 16],
+            long: 0,
         }
     }
 

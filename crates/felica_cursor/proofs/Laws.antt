@@ -2,7 +2,7 @@
 -- Assumes nothing.
 use mathlib.Core.Path.{_≡_, refl, sym, ap, _∙_}
 use mathlib.Core.Bool.{Bool, true, false, not}
-use mathlib.Core.List.{List, [], _∷_, _++_, append-assoc, append-nil}
+use mathlib.Core.List.{List, [], _∷_}
 use Prim.Native.Nat.{ℕ, zero, suc, _+_, _-_, _<_, _≤_}
 use native.Mathlib.Numerals.{add-one}
 use native.Mathlib.Nat.{zero-add, sub-zero, add-zero, add-suc}
@@ -12,9 +12,9 @@ use lib.ListN.{length, getD, drop, length-drop, set, length-replicate, replicate
 use lib.Seq.{drop-cons, drop-drop, paste, paste-suc, getD-drop, drop-at}
 use borrow.Author.Tests.{ltb-false, leb-true, leb-false, lt-ltb, le-ltb, ne-eqb}
 use Rattle.felica_format.specs.Basic.{Step, taken, refuse, bind, refuseIf, zeros, wordOf, wordAt, _and_}
-use Rattle.felica_format.specs.Command.{Element, endFields, noFields}
+use Rattle.felica_format.specs.Command.{endFields, noFields}
 use Rattle.felica_format.specs.Layout.{Ending, bare, polling, nothing}
-use Rattle.felica_format.specs.Read.{wordsOf, readElement, readEach, readLong, readShort, readEnding, readValues, sizeOf, zeroAt, isTimeSlots}
+use Rattle.felica_format.specs.Read.{wordsOf, readLong, readShort, readEnding, readValues, sizeOf, zeroAt, isTimeSlots}
 use Rattle.felica_format.proofs.Steps.{none-taken}
 use Rattle.felica_command.specs.Places.{elementSize, elementsSize}
 use Rattle.felica_cursor.specs.Answers.{asStep, MovesTo, movedWith}
@@ -46,33 +46,6 @@ pub short-cut : (head : ℕ) (l : List ℕ) → length l < 1 → readShort head 
 unfolding readShort
 short-cut head [] h = refl
 short-cut head (a ∷ l) h = absurd (omega arith)
-
--- a walk of the elements that has taken some: those stand in front of what the rest gives
-abbrev pub before : List Element → Step (List Element) → Step (List Element)
-before done (taken es r) = taken (done ++ es) r
-before done (refuse n) = refuse n
-
-before-more : (done : List Element) (e : Element) (x : Step (List Element)) → before done (bind x (λ es t. taken (e ∷ es) t)) ≡ before (done ++ (e ∷ [])) x
-unfolding bind
-before-more done e (taken es r) = ap (λ (l : List Element). taken l r) (sym (append-assoc done (e ∷ []) es))
-before-more done e (refuse n) = refl
-
-pub before-none : (x : Step (List Element)) → x ≡ before [] x
-before-none (taken es r) = refl
-before-none (refuse n) = refl
-
-pub each-more : (done : List Element) (e : Element) (k n : ℕ) (l r : List ℕ) → k ≡ suc n → readElement l ≡ taken e r
-    → before done (readEach k l) ≡ before (done ++ (e ∷ [])) (readEach n r)
-unfolding readEach bind
-each-more done e k n l r p q = rw (p, q) (before-more done e (readEach n r))
-
-pub each-refused : (done : List Element) (k n g : ℕ) (l : List ℕ) → k ≡ suc n → readElement l ≡ refuse g → before done (readEach k l) ≡ refuse g
-unfolding readEach bind
-each-refused done k n g l p q = rw (p, q)
-
-pub each-done : (done : List Element) (k : ℕ) (l : List ℕ) → k ≡ 0 → before done (readEach k l) ≡ taken done l
-unfolding readEach
-each-done done k l p = rw (p, append-nil)
 
 -- how far the elements reach, one by one
 pub size-more : (s : List ℕ) (at next k n : ℕ) → k ≡ suc n → next ≡ at + elementSize (getD s at 0)

@@ -4,14 +4,14 @@ use Prim.Native.Nat.{ℕ}
 use native.Mathlib.Omega.{arith}
 use mathlib.Core.Path.{_≡_, refl, sym, ap, _∙_}
 use mathlib.Core.Bool.{true, false}
-use mathlib.Core.List.{List, []}
+use mathlib.Core.List.{List, [], map}
 use mathlib.Core.Option.{some}
 use lib.ListN.{length, drop}
 use borrow.Author.Tests.{le-ltb}
 use Rattle.felica_format.specs.Basic.{Step, taken, refuse, bind, refuseIf, zeros}
-use Rattle.felica_format.specs.Command.{Command, Element, EndFields, endFields, commandOf, noFields}
+use Rattle.felica_format.specs.Command.{Command, Formed, longCount, EndFields, endFields, commandOf, noFields}
 use Rattle.felica_format.specs.Layout.{noSelector, noCodes, bare, nothing, ignoredBytes, aPackage, Layout, layoutOf}
-use Rattle.felica_format.specs.Read.{readIdm, readSelector, readCodes, readElements, readData, readEnding, readValues, readPackage, ifCodes, readBody}
+use Rattle.felica_format.specs.Read.{readIdm, readSelector, readCodes, readElements, readData, readEnding, readValues, readPackage, ifCodes, counted, readBody}
 use Rattle.felica_command.specs.Types.{propertyOf, propertyIndex}
 use Rattle.felica_command.specs.Meaning.{Fields, fieldsOf, commandIs, refusal}
 use Rattle.felica_command.specs.Places.{placesIn, layoutPlaces}
@@ -41,11 +41,11 @@ pub body : (code : ℕ) (l : Layout) (s : List ℕ) → readBody code l s ≡ (b
     bind (readSelector (l .selector) s₁) λ selector s₂.
     bind (readCodes 9 10 (l .first) s₂) λ first s₃.
     bind (readCodes 11 12 (l .second) s₃) λ second s₄.
-    bind (readElements (ifCodes (l .first) 11 9) (ifCodes (l .first) 12 10) (l .elements) s₄) λ elements s₅.
-    bind (readData (l .blockData) (length elements) s₅) λ blockData s₆.
+    bind (readElements (ifCodes (l .first) 11 9) (ifCodes (l .first) 12 10) (l .elements) s₄) λ blocks s₅.
+    bind (readData (l .blockData) (length blocks) s₅) λ blockData s₆.
     bind (readEnding (l .ending) (l .behind) s₆) λ values s₇.
     bind (readPackage (l .behind) s₇) λ issuePackage s₈.
-    taken (commandOf code idm selector first second elements blockData values issuePackage) s₈)
+    taken (counted (commandOf code idm selector first second (map (λ b. b .element) blocks) blockData values issuePackage) (longCount blocks)) s₈)
 unfolding readBody
 body code l s = refl
 
@@ -88,21 +88,21 @@ unfolding readPackage
 whole-package s = refl
 
 -- the data of as many elements as were read
-pub data-counted : (es : List Element) (n : ℕ) (l : List ℕ) {x : Step (List ℕ)} → length es ≡ n → readData true n l ≡ x → readData true (length es) l ≡ x
+pub data-counted : (es : List Formed) (n : ℕ) (l : List ℕ) {x : Step (List ℕ)} → length es ≡ n → readData true n l ≡ x → readData true (length es) l ≡ x
 data-counted es n l e h = rw e h
 
 -- a body that is refused
 pub refused-at : (s : List ℕ) (at code n g : ℕ) (l : Layout) (r : Parsed) → layoutOf code ≡ l → readBody code l (drop at s) ≡ refuse n
     → g ≡ n → r ≡ refusal g (some code) → BodyRead s at code r
-refused-at s at code n g l r is walk ground e = rw (e, ground, is, walk) (refl, refl, (refl, refl))
+refused-at s at code n g l r is walk ground e = rw (e, ground, is, walk) (refl, refl, (refl, refl, refl))
 
 -- a body that is accepted
-pub accepted-at : (s : List ℕ) (at code : ℕ) (l : Layout) (kind : FelicaStandardCommand) (f : Fields) (idm challenge rest : List ℕ) (c : Command)
-    → layoutOf code ≡ l → fieldsOf kind ≡ f → readBody code l (drop at s) ≡ taken c rest → commandIs s idm challenge f ≡ c → c .code ≡ code
+pub accepted-at : (s : List ℕ) (at code : ℕ) (l : Layout) (kind : FelicaStandardCommand) (f : Fields) (idm challenge : List ℕ) (long n : ℕ) (rest : List ℕ) (c : Command)
+    → long ≡ n → layoutOf code ≡ l → fieldsOf kind ≡ f → readBody code l (drop at s) ≡ taken (counted c n) rest → commandIs s idm challenge f ≡ c → c .code ≡ code
     → placesIn f ≡ layoutPlaces l at s c → f .property ≡ propertyOf (propertyIndex (f .property))
-    → BodyRead s at code (record { answer = AnswerCommand kind; idm = idm; challenge = challenge })
-accepted-at s at code l kind f idm challenge rest c is fields walk meant coded placed property =
-    rw (is, walk, fields) (rw meant refl, placed ∙ ap (λ (k : Layout). layoutPlaces k at s c) (sym (ap layoutOf coded ∙ is)), property)
+    → BodyRead s at code (record { answer = AnswerCommand kind; idm = idm; challenge = challenge; long = long })
+accepted-at s at code l kind f idm challenge long n rest c count is fields walk meant coded placed property =
+    rw (is, walk, fields) (rw (meant, count) refl, placed ∙ ap (λ (k : Layout). layoutPlaces k at s c) (sym (ap layoutOf coded ∙ is)), property)
 
 -- what an answer says, as a step on the bytes s
 abbrev pub idmStep : List ℕ → List ℕ → Moved → Step (List ℕ)

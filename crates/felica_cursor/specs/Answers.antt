@@ -5,7 +5,8 @@ use Prim.Native.Nat.{ℕ}
 use mathlib.Core.List.{List}
 use lib.ListN.{drop}
 use Rattle.felica_format.specs.Basic.{Step, taken, refuse, zeros}
-use Rattle.felica_format.specs.Command.{Element, EndFields, endFields, noFields}
+use Rattle.felica_format.specs.Command.{Formed, EndFields, endFields, noFields}
+use Rattle.felica_format.specs.Read.{formed}
 use Rattle.felica_command.specs.declared.command.Part.{Part}
 use Rattle.felica_command.specs.Types.{elementIs, nodePropertyByte, encryptionByte, packetByte}
 use Rattle.felica_cursor.specs.declared.answers.IdmTaken.{IdmTaken}
@@ -18,6 +19,8 @@ use Rattle.felica_cursor.specs.declared.answers.ListTaken.{ListTaken}
 use Rattle.felica_cursor.specs.declared.answers.ListTaken.the-variants.{List as ListAt, Refused as ListRefused}
 use Rattle.felica_cursor.specs.declared.answers.ElementTaken.{ElementTaken}
 use Rattle.felica_cursor.specs.declared.answers.ElementTaken.the-variants.{Element as ElementAt, Refused as ElementRefused}
+use Rattle.felica_cursor.specs.declared.answers.BlocksTaken.{BlocksTaken}
+use Rattle.felica_cursor.specs.declared.answers.BlocksTaken.the-variants.{Blocks, Refused as BlocksRefused}
 use Rattle.felica_cursor.specs.declared.answers.PropertyTypeTaken.{PropertyTypeTaken}
 use Rattle.felica_cursor.specs.declared.answers.PropertyTypeTaken.the-variants.{Property, Refused as PropertyTypeRefused}
 use Rattle.felica_cursor.specs.declared.answers.WordTaken.{WordTaken}
@@ -73,9 +76,18 @@ abbrev pub listTaken : ListTaken → Walked Part
 listTaken (ListAt p c) = onward p (c .at)
 listTaken (ListRefused n) = halted n
 
-abbrev pub blockTaken : ElementTaken → Walked Element
-blockTaken (ElementAt e c) = onward (elementIs e) (c .at)
+abbrev pub blockTaken : ElementTaken → Walked Formed
+blockTaken (ElementAt e long c) = onward (formed long (elementIs e)) (c .at)
 blockTaken (ElementRefused n) = halted n
+
+abbrev pub blocksTaken : BlocksTaken → Walked Part
+blocksTaken (Blocks p long c) = onward p (c .at)
+blocksTaken (BlocksRefused n) = halted n
+
+-- how many were long
+abbrev pub longTaken : BlocksTaken → ℕ
+longTaken (Blocks p long c) = long
+longTaken (BlocksRefused n) = 0
 
 abbrev pub propertyTypeTaken : PropertyTypeTaken → Walked ℕ
 propertyTypeTaken (Property t c) = onward (nodePropertyByte t) (c .at)
@@ -109,6 +121,9 @@ listGround r = groundOf (listTaken r)
 
 abbrev pub elementGround : ElementTaken → ℕ
 elementGround r = groundOf (blockTaken r)
+
+abbrev pub blocksGround : BlocksTaken → ℕ
+blocksGround r = groundOf (blocksTaken r)
 
 abbrev pub propertyGround : PropertyTypeTaken → ℕ
 propertyGround r = groundOf (propertyTypeTaken r)

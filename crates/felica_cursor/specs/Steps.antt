@@ -6,13 +6,14 @@ use mathlib.Core.List.{List}
 use lib.ListN.{length, getD, drop}
 use lib.Dec.{ltb}
 use Rattle.felica_format.specs.Basic.{Step, taken, refuseIf, zeros}
-use Rattle.felica_format.specs.Command.{Element}
+use Rattle.felica_format.specs.Command.{Formed, longCount}
 use Rattle.felica_command.specs.declared.command.Part.{Part}
-use Rattle.felica_command.specs.Meaning.{part, codesAt, elementsAt, bytesAt}
+use Rattle.felica_command.specs.Meaning.{part, codesAt, formedAt, bytesAt}
 use Rattle.felica_command.specs.Places.{elementSize, elementsSize}
-use Rattle.felica_cursor.specs.Answers.{Walked, onward, halted, asStep, Holds, listTaken, blockTaken}
+use Rattle.felica_cursor.specs.Answers.{Walked, onward, halted, asStep, Holds, listTaken, blockTaken, blocksTaken, longTaken}
 use Rattle.felica_cursor.specs.declared.answers.ListTaken.{ListTaken}
 use Rattle.felica_cursor.specs.declared.answers.ElementTaken.{ElementTaken}
+use Rattle.felica_cursor.specs.declared.answers.BlocksTaken.{BlocksTaken}
 use Rattle.felica_cursor.specs.declared.answers.IdmTaken.{IdmTaken}
 use Rattle.felica_cursor.specs.declared.answers.ChallengeTaken.{ChallengeTaken}
 use Rattle.felica_cursor.specs.declared.answers.Moved.{Moved}
@@ -31,19 +32,20 @@ abbrev pub CodesPlaced : ℕ → ListTaken → Type 0
 CodesPlaced start r = Holds (λ p next. (p .start ≡ start) × (next ≡ start + 2 * p .count)) (listTaken r)
 
 -- an element moves the position by its size
-abbrev pub elementTaken : List ℕ → ElementTaken → Step Element
+abbrev pub elementTaken : List ℕ → ElementTaken → Step Formed
 elementTaken s r = asStep s (blockTaken r)
 
 abbrev pub ElementPlaced : List ℕ → ℕ → ElementTaken → Type 0
 ElementPlaced s at r = Holds (λ e next. next ≡ at + elementSize (getD s at 0)) (blockTaken r)
 
 -- the part has as many elements as it says
-abbrev pub elementsTaken : List ℕ → ListTaken → Step (List Element)
-elementsTaken s r = asStep s (reading (elementsAt s) (listTaken r))
+abbrev pub elementsTaken : List ℕ → BlocksTaken → Step (List Formed)
+elementsTaken s r = asStep s (reading (formedAt s) (blocksTaken r))
 
-abbrev pub ElementsPlaced : List ℕ → ℕ → ListTaken → Type 0
+abbrev pub ElementsPlaced : List ℕ → ℕ → BlocksTaken → Type 0
 ElementsPlaced s start r =
-    Holds (λ p next. (p .start ≡ start) × (length (elementsAt s p) ≡ p .count) × (next ≡ start + elementsSize (p .count) (drop start s))) (listTaken r)
+    Holds (λ p next. (p .start ≡ start) × (length (formedAt s p) ≡ p .count) × (next ≡ start + elementsSize (p .count) (drop start s))
+    × (longTaken r ≡ longCount (formedAt s p))) (blocksTaken r)
 
 -- data: 16 bytes for each block
 abbrev pub dataTaken : List ℕ → ListTaken → Step (List ℕ)

@@ -1,6 +1,6 @@
 // The answer of each step: what it took, with the position behind it, or the number of the ground on which it refuses.
 ghost use mathlib.Core.Path.{_≡_};
-ghost use Rattle.felica_cursor.specs.Answers.{movedGround, byteGround, listGround, elementGround, propertyGround};
+ghost use Rattle.felica_cursor.specs.Answers.{movedGround, byteGround, listGround, elementGround, blocksGround, propertyGround};
 ghost use Rattle.felica_cursor.specs.Answers.{wordGround, wordsGround, pollingGround, parameterGround};
 use crate::cursor::Cursor;
 use felica_command::command::Part;
@@ -36,8 +36,15 @@ pub enum ListTaken {
     Refused(u8),
 }
 
+// An element, and whether its form was the long one.
 pub enum ElementTaken {
-    Element(BlockListElement, Cursor),
+    Element(BlockListElement, bool, Cursor),
+    Refused(u8),
+}
+
+// A block list, and how many of its elements were long.
+pub enum BlocksTaken {
+    Blocks(Part, u8, Cursor),
     Refused(u8),
 }
 
@@ -101,13 +108,24 @@ impl ListTaken {
     }
 }
 
+impl BlocksTaken {
+    pub fn ground(self) -> u8
+        ensures { λ r. ⌜ r ≡ blocksGround self ⌝ }
+    {
+        match self {
+            BlocksTaken::Refused(number) => number,
+            BlocksTaken::Blocks(_, _, _) => 0,
+        }
+    }
+}
+
 impl ElementTaken {
     pub fn ground(self) -> u8
         ensures { λ r. ⌜ r ≡ elementGround self ⌝ }
     {
         match self {
             ElementTaken::Refused(number) => number,
-            ElementTaken::Element(_, _) => 0,
+            ElementTaken::Element(_, _, _) => 0,
         }
     }
 }

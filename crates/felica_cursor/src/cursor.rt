@@ -3,14 +3,16 @@
 ghost use mathlib.Core.Path.{_≡_};
 ghost use mathlib.Core.Bool.{true};
 ghost use lib.ListN.{length, take, drop};
-ghost use Prim.Native.Nat.{_+_, _≤_};
-ghost use Rattle.felica_format.specs.Basic.{wordOf};
+ghost use Prim.Native.Nat.{_+_, _-_, _≤_, _<_};
+ghost use Rattle.felica_format.specs.Basic.{refuse, wordOf};
 ghost use Rattle.felica_format.specs.Layout.{_to_, typeByte, anyByte, boundsAt};
 ghost use Rattle.felica_format.specs.Read.{elementOf, readIdm, readSelector, readCount, readWords, readCodes, readElement, readEach, readElements, readData};
+ghost use Rattle.felica_command.specs.Places.{elementSize};
 ghost use Rattle.felica_command.specs.Types.{elementIs};
 ghost use Rattle.felica_cursor.specs.Answers.{asStep, MovesTo, idmTaken, byteTaken, propertyTypeTaken};
 ghost use Rattle.felica_cursor.specs.Steps.{IdmZero, codesTaken, CodesPlaced, elementTaken, ElementPlaced, elementsTaken};
 ghost use Rattle.felica_cursor.specs.Steps.{ElementsPlaced, dataTaken, DataPlaced};
+use crate::answers::BlocksTaken;
 use crate::answers::ByteTaken;
 use crate::answers::ElementTaken;
 use crate::answers::IdmTaken;
@@ -248,53 +250,61 @@ impl Cursor {
                 return ElementTaken::Refused(error::LONG_BLOCK_NUMBER_MISSING);
             }
             let number = word_of(payload[at + 1], payload[at + 2]);
-            return ElementTaken::Element(element(header, number), Cursor { at: at + 3 });
+            return ElementTaken::Element(element(header, number), true, Cursor { at: at + 3 });
         }
         if left < 2 {
             return ElementTaken::Refused(error::SHORT_BLOCK_NUMBER_MISSING);
         }
         let number = word_of(payload[at + 1], 0);
-        ElementTaken::Element(element(header, number), Cursor { at: at + 2 })
+        ElementTaken::Element(element(header, number), false, Cursor { at: at + 2 })
     }
 
-    // The elements behind their count.
-    pub fn take_elements(self, payload: &[u8], count: u8) -> ListTaken
+    // The elements behind their count. An element has two bytes at least, so the walk goes on while two are left; a long one may then lack its third. `taken` is the
+    // place of the last byte taken, which such an element takes to the payload's end.
+    fn take_elements(self, payload: &[u8], count: u8) -> BlocksTaken
+        requires { ⌜ (0 < count) × (0 < self .at) × (self .at ≤ length (now payload)) ⌝ }
         ensures { λ r. ⌜ (readEach count (drop (self .at) (now (payload .entry))) ≡ elementsTaken (now (payload .entry)) r) × ElementsPlaced (now (payload .entry)) (self .at) r ⌝ }
     {
         let start = self.at;
-        let mut at = start;
+        let last = before_two(payload);
+        let mut taken = start - 1;
         let mut left = count;
         while 0 < left {
-            let cursor = Cursor { at: at };
-            let taken = cursor.take_element(payload);
-            let ElementTaken::Element(_, next) = taken else {
-                return ListTaken::Refused(taken.ground());
-            };
-            at = next.at;
+            if last <= taken {
+                return BlocksTaken::Refused(cut_off(payload, taken));
+            }
+            taken += element_size(payload[taken + 1]);
             left -= 1;
         }
-        ListTaken::List(
+        if payload.len() <= taken {
+            return BlocksTaken::Refused(error::LONG_BLOCK_NUMBER_MISSING);
+        }
+        let at = taken + 1;
+        // A short element has two bytes, a long one three.
+        let long = at - start - 2 * (count as usize);
+        BlocksTaken::Blocks(
             Part {
                 start: start,
                 count: count as usize,
             },
+            long as u8,
             Cursor { at: at },
         )
     }
 
     // take_block_list, with the count in front of it
-    pub fn take_block_list(self, payload: &[u8], missing: u8, out_of_range: u8) -> ListTaken
+    pub fn take_block_list(self, payload: &[u8], missing: u8, out_of_range: u8) -> BlocksTaken
         ensures { λ r. ⌜ (readElements missing «out_of_range» true (drop (self .at) (now (payload .entry))) ≡ elementsTaken (now (payload .entry)) r) × ElementsPlaced (now (payload .entry)) (self .at + 1) r ⌝ }
     {
         let counted = self.take_block_count(payload, missing, out_of_range);
         let ByteTaken::Byte(count, cursor) = counted else {
-            return ListTaken::Refused(counted.ground());
+            return BlocksTaken::Refused(counted.ground());
         };
         cursor.take_elements(payload, count)
     }
 
     // The blocks of a secure command: their count is the first.
-    pub fn take_first_blocks(self, payload: &[u8]) -> ListTaken
+    pub fn take_first_blocks(self, payload: &[u8]) -> BlocksTaken
         ensures { λ r. ⌜ (readElements 9 10 true (drop (self .at) (now (payload .entry))) ≡ elementsTaken (now (payload .entry)) r) × ElementsPlaced (now (payload .entry)) (self .at + 1) r ⌝ }
     {
         self.take_block_list(
@@ -305,7 +315,7 @@ impl Cursor {
     }
 
     // Blocks behind a list of codes.
-    pub fn take_second_blocks(self, payload: &[u8]) -> ListTaken
+    pub fn take_second_blocks(self, payload: &[u8]) -> BlocksTaken
         ensures { λ r. ⌜ (readElements 11 12 true (drop (self .at) (now (payload .entry))) ≡ elementsTaken (now (payload .entry)) r) × ElementsPlaced (now (payload .entry)) (self .at + 1) r ⌝ }
     {
         self.take_block_list(
@@ -333,4 +343,30 @@ impl Cursor {
             Cursor { at: start + count },
         )
     }
+}
+
+// Two bytes are left behind every place before this one.
+fn before_two(payload: &[u8]) -> usize
+    ensures { λ r. ⌜ r ≡ length (now (payload .entry)) - 2 ⌝ }
+{
+    if payload.len() < 2 { 0 } else { payload.len() - 2 }
+}
+
+// The bytes of an element, by its first.
+fn element_size(header: u8) -> usize
+    ensures { λ r. ⌜ r ≡ elementSize header ⌝ }
+{
+    3 - (header >> 7) as usize
+}
+
+// Why no element is whole behind a place with fewer than two bytes behind it. The payload's end is taken only by a long element that lacks its third byte.
+fn cut_off(payload: &[u8], taken: usize) -> u8
+    ensures { λ r. ⌜ (length (now (payload .entry)) ≤ taken → r ≡ 16) × (taken < length (now (payload .entry)) → length (now (payload .entry)) < taken + 3 → readElement (drop (taken + 1) (now (payload .entry))) ≡ refuse r) ⌝ }
+{
+    if payload.len() <= taken {
+        return error::LONG_BLOCK_NUMBER_MISSING;
+    }
+    let cursor = Cursor { at: taken + 1 };
+    let element = cursor.take_element(payload);
+    element.ground()
 }

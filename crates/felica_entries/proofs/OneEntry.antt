@@ -8,7 +8,7 @@ use mathlib.Core.Option.{some, none}
 use lib.ListN.{length, getD, drop}
 use borrow.Author.Tests.{lt-ltb, le-ltb, le-leb, lt-leb}
 use Rattle.felica_format.specs.Basic.{_and_, wordAt, Step, taken, refuse, bind}
-use Rattle.felica_format.specs.Command.{Element}
+use Rattle.felica_format.specs.Command.{Formed}
 use Rattle.felica_format.specs.Read.{wordsOf, readElement, readEach}
 use Rattle.felica_format.proofs.Steps.{bind-taken, taken-value}
 use Rattle.felica_command.specs.Meaning.{valueOr}
@@ -38,7 +38,7 @@ unfolding elementEntry
 one-element s p i h = rw (lt-ltb i (p .count) h)
 
 -- an element is walked over
-past : (e : Element) (x : Step (List Element)) → bind (bind x λ es t. taken (e ∷ es) t) (λ before rest. readElement rest) ≡ bind x (λ before rest. readElement rest)
+past : (e : Formed) (x : Step (List Formed)) → bind (bind x λ es t. taken (e ∷ es) t) (λ before rest. readElement rest) ≡ bind x (λ before rest. readElement rest)
 unfolding bind
 past e (taken es r) = refl
 past e (refuse n) = refl
@@ -47,7 +47,7 @@ pub behind-none : (l : List ℕ) → elementBehind 0 l ≡ readElement l
 unfolding readEach bind
 behind-none l = refl
 
-pub behind-more : (k n : ℕ) (l : List ℕ) (e : Element) (r : List ℕ) → k ≡ suc n → readElement l ≡ taken e r → elementBehind k l ≡ elementBehind n r
+pub behind-more : (k n : ℕ) (l : List ℕ) (e : Formed) (r : List ℕ) → k ≡ suc n → readElement l ≡ taken e r → elementBehind k l ≡ elementBehind n r
 unfolding readEach bind
 behind-more k n l e r p q = rw (p, q) (past e (readEach n r))
 
@@ -68,7 +68,7 @@ pub code-of-list : CodeOfList
 code-of-list s p i inside h = one-code s p i h (omega arith) ∙ ap some (sym (codes-get (p .count) (drop (p .start) s) i h ∙ word-drop s (p .start) (2 * i)))
 
 -- the elements of a list
-behind-get : (n : ℕ) (l : List ℕ) (es : List Element) (r : List ℕ) (d : Element) (i : ℕ) → readEach n l ≡ taken es r → i < n
+behind-get : (n : ℕ) (l : List ℕ) (es : List Formed) (r : List ℕ) (d : Formed) (i : ℕ) → readEach n l ≡ taken es r → i < n
     → valueOf (elementBehind i l) ≡ some (getD es i d)
 unfolding readEach
 behind-get zero l es r d i took h = absurd (omega arith)
@@ -76,15 +76,15 @@ behind-get (suc n) l es r d zero took h =
     let first = bind-taken _ _ took in
     let rest = bind-taken _ _ (first .3) in
     let value = taken-value (rest .3) in
-    ap valueOf (behind-none l ∙ first .2) ∙ ap (λ (x : List Element). some (getD x 0 d)) value
+    ap valueOf (behind-none l ∙ first .2) ∙ ap (λ (x : List Formed). some (getD x 0 d)) value
 behind-get (suc n) l es r d (suc i) took h =
     let first = bind-taken _ _ took in
     let rest = bind-taken _ _ (first .3) in
     let value = taken-value (rest .3) in
     ap valueOf (behind-more (suc i) i l (first .0) (first .1) refl (first .2)) ∙
-    behind-get n (first .1) (rest .0) (rest .1) d i (rest .2) (omega arith) ∙ ap (λ (x : List Element). some (getD x (suc i) d)) value
+    behind-get n (first .1) (rest .0) (rest .1) d i (rest .2) (omega arith) ∙ ap (λ (x : List Formed). some (getD x (suc i) d)) value
 
-element-of-step : (s : List ℕ) (p : Part) (i : ℕ) (d : Element) (x : Step (List Element)) → readEach (p .count) (drop (p .start) s) ≡ x
+element-of-step : (s : List ℕ) (p : Part) (i : ℕ) (d : Formed) (x : Step (List Formed)) → readEach (p .count) (drop (p .start) s) ≡ x
     → length (valueOr [] x) ≡ p .count → i < p .count → elementEntry s p i ≡ some (getD (valueOr [] x) i d)
 element-of-step s p i d (taken es r) is counted h = one-element s p i h ∙ behind-get (p .count) (drop (p .start) s) es r d i is h
 element-of-step s p i d (refuse n) is counted h = absurd (omega (arith, counted))

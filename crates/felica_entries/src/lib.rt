@@ -19,8 +19,9 @@ pub enum NodeCodeAt {
     None,
 }
 
+// An element, and whether its form was the long one.
 pub enum BlockAt {
-    Element(BlockListElement),
+    Element(BlockListElement, bool),
     None,
 }
 
@@ -79,7 +80,7 @@ pub fn block_at(payload: &[u8], list: Part, i: usize) -> BlockAt
     while 0 < left {
         let cursor = Cursor { at: at };
         let taken = cursor.take_element(payload);
-        let ElementTaken::Element(_, next) = taken else {
+        let ElementTaken::Element(_, _, next) = taken else {
             return BlockAt::None;
         };
         at = next.at;
@@ -87,8 +88,8 @@ pub fn block_at(payload: &[u8], list: Part, i: usize) -> BlockAt
     }
     let cursor = Cursor { at: at };
     let taken = cursor.take_element(payload);
-    let ElementTaken::Element(element, _) = taken else {
+    let ElementTaken::Element(element, long, _) = taken else {
         return BlockAt::None;
     };
-    BlockAt::Element(element)
+    BlockAt::Element(element, long)
 }

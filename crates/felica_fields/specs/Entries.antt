@@ -4,7 +4,7 @@ use Prim.Native.Nat.{ℕ, zero, suc, _%_}
 use mathlib.Core.List.{List, [], _∷_, _++_}
 use lib.ListN.{drop}
 use Rattle.felica_format.specs.Basic.{Step, taken, refuse, wordOf}
-use Rattle.felica_format.specs.Command.{Element}
+use Rattle.felica_format.specs.Command.{Element, Formed}
 use Rattle.felica_format.specs.Read.{readElement}
 use Rattle.felica_command.specs.declared.command.Part.{Part}
 use Rattle.felica_text.specs.Text.{digitText, wordText, parted}
@@ -26,6 +26,10 @@ codeRead s NoCode = refuse 13
 abbrev pub elementText : Element → List ℕ
 elementText e = wordText (e .number) ++ (47 ∷ digitText (e .place % 16) ∷ 47 ∷ digitText (e .mode % 16) ∷ [])
 
+-- the same of either form
+abbrev pub formedText : Formed → List ℕ
+formedText f = elementText (f .element)
+
 abbrev pub ifTaken : {A B : Type 0} → Step A → (A → List ℕ → B) → B → B
 ifTaken (taken a rest) f other = f a rest
 ifTaken (refuse n) f other = other
@@ -39,4 +43,4 @@ abbrev pub codesText : List ℕ → Part → List ℕ
 codesText s p = parted wordText (entriesOf readCode (p .count) (drop (p .start) s))
 
 abbrev pub blocksText : List ℕ → Part → List ℕ
-blocksText s p = parted elementText (entriesOf readElement (p .count) (drop (p .start) s))
+blocksText s p = parted formedText (entriesOf readElement (p .count) (drop (p .start) s))

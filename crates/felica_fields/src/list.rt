@@ -5,7 +5,7 @@ ghost use Rattle.felica_format.specs.Read.{readElement};
 ghost use Rattle.felica_command.specs.Types.{elementIs};
 ghost use Rattle.felica_text.specs.Text.{wordText, behindCommas};
 ghost use Rattle.felica_put.specs.Put.{buffer, put};
-ghost use Rattle.felica_fields.specs.Entries.{readCode, elementText, entriesOf, codesText, blocksText};
+ghost use Rattle.felica_fields.specs.Entries.{readCode, elementText, formedText, entriesOf, codesText, blocksText};
 use crate::entry::CodeRead;
 use crate::entry::code_at;
 use felica_command::command::Part;
@@ -61,7 +61,7 @@ pub(crate) fn put_blocks(out: &mut [u8], at: usize, payload: &[u8], list: Part) 
     }
     let cursor = Cursor { at: start };
     let first = cursor.take_element(payload);
-    let ElementTaken::Element(element, behind) = first else {
+    let ElementTaken::Element(element, _, behind) = first else {
         return put_byte(out, at, b'-');
     };
     let next = put_block(out, at, element);
@@ -69,7 +69,7 @@ pub(crate) fn put_blocks(out: &mut [u8], at: usize, payload: &[u8], list: Part) 
 }
 
 fn put_more_blocks(out: &mut [u8], at: usize, payload: &[u8], start: usize, count: usize) -> usize
-    ensures { λ r. ⌜ buffer (now (out .exit)) r ≡ put (buffer (now (out .entry)) at) (behindCommas elementText (entriesOf readElement count (drop start (now (payload .entry))))) ⌝ }
+    ensures { λ r. ⌜ buffer (now (out .exit)) r ≡ put (buffer (now (out .entry)) at) (behindCommas formedText (entriesOf readElement count (drop start (now (payload .entry))))) ⌝ }
 {
     let mut next = at;
     let mut place = start;
@@ -77,7 +77,7 @@ fn put_more_blocks(out: &mut [u8], at: usize, payload: &[u8], start: usize, coun
     while 0 < left {
         let cursor = Cursor { at: place };
         let taken = cursor.take_element(payload);
-        let ElementTaken::Element(element, behind) = taken else {
+        let ElementTaken::Element(element, _, behind) = taken else {
             return next;
         };
         next = put_byte(out, next, b',');

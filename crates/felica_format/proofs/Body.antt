@@ -2,24 +2,25 @@
 -- Assumes nothing.
 use Prim.Native.Nat.{ℕ, _≤_, _<_}
 use native.Mathlib.Omega.{arith}
-use mathlib.Core.Path.{_≡_, refl, ap, subst₂}
+use mathlib.Core.Path.{_≡_, refl, sym, ap, _∙_, subst₂}
 use mathlib.Core.Logic.{inl, inr}
 use mathlib.Core.Bool.{Bool, true}
 use mathlib.Core.List.{List, [], _++_, append-assoc, map}
 use lib.ListN.{length, length-append, length-map}
 use borrow.Author.Tests.{eq-eqb}
 use Rattle.felica_format.specs.Basic.{Bytes, Step, taken, bind}
-use Rattle.felica_format.specs.Command.{Command, Element, elementsOf, endFieldsOf, commandOf}
+use Rattle.felica_format.specs.Command.{Command, Element, Formed, longCount, elementsOf, endFieldsOf, commandOf}
 use Rattle.felica_format.specs.Layout.{Layout, boundsOf}
-use Rattle.felica_format.specs.Read.{sizeOf, readEnding, readPackage, ifCodes, readBody}
-use Rattle.felica_format.specs.Write.{Forms, idmBytes, selectorBytes, codesBytes, eachBytes, elementsBytes, dataBytes, endingBytes, packageBytes, bodyBytes}
+use Rattle.felica_format.specs.Read.{Counted, counted, sizeOf, readElements, readEnding, readPackage, ifCodes, readBody}
+use Rattle.felica_format.specs.Write.{Forms, idmBytes, selectorBytes, codesBytes, eachBytes, longIn, elementsBytes, dataBytes, endingBytes, packageBytes, bodyBytes}
 use Rattle.felica_format.specs.Writable.{idmOk, selectorOk, codesOk, sameLength, oneLength, elementsOk, dataOk, rangesOf, endFieldsOk, packageOk, bodyOk}
 use Rattle.felica_format.proofs.Tests.{and-left, and-right, and-both}
 use Rattle.felica_format.proofs.Bytes.{allBelow-++, bytes-right}
 use Rattle.felica_format.proofs.Steps.{taken-value, taken-rest, bind-taken}
 use Rattle.felica_format.proofs.Laws.{Laws}
 use Rattle.felica_format.proofs.Parts.{idm-laws, selector-laws, codes-laws, data-laws}
-use Rattle.felica_format.proofs.Elements.{elements-laws, countBytes, elements-apart, SameOrLonger, elements-longer}
+use Rattle.felica_format.proofs.Elements.{elementsIn, inForms, inForms-elements, inForms-long, inForms-length, elements-back, elements-small, elements-only}
+use Rattle.felica_format.proofs.Elements.{countBytes, elements-apart, SameOrLonger, elements-longer}
 use Rattle.felica_format.proofs.Zip.{zip-lists, zipped}
 use Rattle.felica_format.proofs.Ending.{Left, ending-back, package-back, ending-small, package-small, ending-only}
 
@@ -71,25 +72,35 @@ of-fits l c h =
 
 -- A walk that took something: what its first step took, and how the walk went on. What follows from that is handed over as a function, so that it
 -- speaks of variables and not of the terms that stand for them.
-step : {A B F X : Type 0} {read : List ℕ → Step A} {write : F → A → List ℕ} {ok : A → Bool} (laws : Laws F read write ok)
+step : {A B X : Type 0} {read : List ℕ → Step A} {write : A → List ℕ} {ok : A → Bool} (laws : Laws read write ok)
     (s : List ℕ) (next : A → List ℕ → Step B) {b : B} {r : List ℕ} → Bytes s → bind (read s) next ≡ taken b r
-    → ((a : A) (t : List ℕ) (f : F) → ok a ≡ true → s ≡ write f a ++ t → Bytes t → next a t ≡ taken b r → X) → X
+    → ((a : A) (t : List ℕ) → ok a ≡ true → s ≡ write a ++ t → Bytes t → next a t ≡ taken b r → X) → X
 step {write = write} laws s next small e then =
     let k = bind-taken _ next e in
     let o = laws .only s (k .0) (k .1) small (k .2) in
-    then (k .0) (k .1) (o .0) (o .1) (o .2) (bytes-right (write (o .0) (k .0)) (k .1) (rw (o .2) at small)) (k .3)
+    then (k .0) (k .1) (o .0) (o .1) (bytes-right (write (k .0)) (k .1) (rw (o .1) at small)) (k .3)
 
 end : {A B X : Type 0} (m : Step A) (next : A → List ℕ → Step B) {b : B} {r : List ℕ} → bind m next ≡ taken b r
     → ((a : A) (t : List ℕ) → m ≡ taken a t → next a t ≡ taken b r → X) → X
 end m next e then = let k = bind-taken m next e in then (k .0) (k .1) (k .2) (k .3)
 
+step-blocks : {B X : Type 0} (missing outside : ℕ) (there : Bool) (s : List ℕ) (next : List Formed → List ℕ → Step B) {b : B} {r : List ℕ}
+    → Bytes s → bind (readElements missing outside there s) next ≡ taken b r
+    → ((fs : List Formed) (t : List ℕ) (forms : Forms) → elementsOk there (elementsIn fs) ≡ true → inForms forms (elementsIn fs) ≡ fs
+    → s ≡ elementsBytes there forms (elementsIn fs) ++ t → Bytes t → next fs t ≡ taken b r → X) → X
+step-blocks missing outside there s next small e then =
+    let k = bind-taken _ next e in
+    let o = elements-only missing outside there s (k .0) (k .1) small (k .2) in
+    then (k .0) (k .1) (o .forms) (o .ok) (o .same) (o .is) (bytes-right (elementsBytes there (o .forms) (elementsIn (k .0))) (k .1) (rw (o .is) at small)) (k .3)
+
 -- what was read as a body
-pub record Body (l : Layout) (code : ℕ) (s : List ℕ) (c : Command) (rest : List ℕ) : Type 0 where
+pub record Body (l : Layout) (code : ℕ) (s : List ℕ) (r : Counted) (rest : List ℕ) : Type 0 where
   pub forms : Forms
-  pub same : c .code ≡ code
-  pub ok : bodyOk l c ≡ true
+  pub same : r .command .code ≡ code
+  pub long : r .long ≡ longIn forms (elementsOf (r .command))
+  pub ok : bodyOk l (r .command) ≡ true
   pub left : Left (l .behind) rest
-  pub is : s ≡ bodyBytes l forms c ++ rest
+  pub is : s ≡ bodyBytes l forms (r .command) ++ rest
 
 -- the command of a command's own parts
 command-of : (c : Command) → oneLength c ≡ true
@@ -123,7 +134,7 @@ one-length es c ns ps ms =
 
 module _ (l : Layout) (n : Narrow l) where
   pub body-back : (forms : Forms) (c : Command) (rest : List ℕ) → bodyOk l c ≡ true → Left (l .behind) rest
-      → readBody (c .code) l (bodyBytes l forms c ++ rest) ≡ taken c rest
+      → readBody (c .code) l (bodyBytes l forms c ++ rest) ≡ taken (counted c (longIn forms (elementsOf c))) rest
   unfolding readBody bodyBytes bind
   body-back forms c rest ok left =
       let h = fits-of l c ok in
@@ -136,57 +147,62 @@ module _ (l : Layout) (n : Narrow l) where
       let t₂ : List ℕ = selectorBytes (l .selector) (c .selector) ++ t₃ in
       simp append-assoc
       (rw (
-        idm-laws (l .idm) .back tt (c .idm) t₂ (h .idm),
-        selector-laws (l .selector) .back tt (c .selector) t₃ (h .selector),
-        codes-laws 9 10 (l .first) (n .first) .back tt (c .first) t₄ (h .first),
-        codes-laws 11 12 (l .second) (n .second) .back tt (c .second) t₅ (h .second),
-        elements-laws (ifCodes (l .first) 11 9) (ifCodes (l .first) 12 10) (l .elements) .back forms (elementsOf c) t₆ (h .elements),
-        data-laws (l .blockData) (length (elementsOf c)) .back tt (c .blockData) t₇ (h .blockData),
+        idm-laws (l .idm) .back (c .idm) t₂ (h .idm),
+        selector-laws (l .selector) .back (c .selector) t₃ (h .selector),
+        codes-laws 9 10 (l .first) (n .first) .back (c .first) t₄ (h .first),
+        codes-laws 11 12 (l .second) (n .second) .back (c .second) t₅ (h .second),
+        elements-back (ifCodes (l .first) 11 9) (ifCodes (l .first) 12 10) (l .elements) forms (elementsOf c) t₆ (h .elements),
+        inForms-length forms (elementsOf c),
+        inForms-elements forms (elementsOf c),
+        inForms-long forms (elementsOf c),
+        data-laws (l .blockData) (length (elementsOf c)) .back (c .blockData) t₇ (h .blockData),
         ending-back (l .ending) (l .behind) (endFieldsOf c) (c .issuePackage) rest (n .ending) (h .values) (h .pack) left,
         package-back (l .behind) (c .issuePackage) rest (h .pack) left,
       )
-      (ap (λ (d : Command). taken d rest) (command-of c (h .lists))))
+      (ap (λ (d : Command). taken (counted d (longIn forms (elementsOf c))) rest) (command-of c (h .lists))))
 
-  pub body-only : (code : ℕ) (s : List ℕ) (c : Command) (rest : List ℕ) → Bytes s → readBody code l s ≡ taken c rest → Body l code s c rest
+  pub body-only : (code : ℕ) (s : List ℕ) (r : Counted) (rest : List ℕ) → Bytes s → readBody code l s ≡ taken r rest → Body l code s r rest
   unfolding readBody bodyBytes
-  body-only code s c rest small e =
-      step (idm-laws (l .idm)) s _ small e λ idm s₁ _ ok₁ is₁ small₁ e₁.
-      step (selector-laws (l .selector)) s₁ _ small₁ e₁ λ selector s₂ _ ok₂ is₂ small₂ e₂.
-      step (codes-laws 9 10 (l .first) (n .first)) s₂ _ small₂ e₂ λ first s₃ _ ok₃ is₃ small₃ e₃.
-      step (codes-laws 11 12 (l .second) (n .second)) s₃ _ small₃ e₃ λ second s₄ _ ok₄ is₄ small₄ e₄.
-      step (elements-laws (ifCodes (l .first) 11 9) (ifCodes (l .first) 12 10) (l .elements)) s₄ _ small₄ e₄ λ elements s₅ forms ok₅ is₅ small₅ e₅.
-      step (data-laws (l .blockData) (length elements)) s₅ _ small₅ e₅ λ blockData s₆ _ ok₆ is₆ small₆ e₆.
+  body-only code s r rest small e =
+      step (idm-laws (l .idm)) s _ small e λ idm s₁ ok₁ is₁ small₁ e₁.
+      step (selector-laws (l .selector)) s₁ _ small₁ e₁ λ selector s₂ ok₂ is₂ small₂ e₂.
+      step (codes-laws 9 10 (l .first) (n .first)) s₂ _ small₂ e₂ λ first s₃ ok₃ is₃ small₃ e₃.
+      step (codes-laws 11 12 (l .second) (n .second)) s₃ _ small₃ e₃ λ second s₄ ok₄ is₄ small₄ e₄.
+      step-blocks (ifCodes (l .first) 11 9) (ifCodes (l .first) 12 10) (l .elements) s₄ _ small₄ e₄ λ fs s₅ forms ok₅ same₅ is₅ small₅ e₅.
+      step (data-laws (l .blockData) (length fs)) s₅ _ small₅ e₅ λ blockData s₆ ok₆ is₆ small₆ e₆.
       end (readEnding (l .ending) (l .behind) s₆) _ e₆ λ values s₇ r₇ e₇.
       end (readPackage (l .behind) s₇) _ e₇ λ pack s₈ r₈ e₈.
       let o = ending-only (l .ending) (l .behind) s₆ values s₇ pack s₈ (n .ending) small₆ r₇ r₈ in
-      let d : Command = commandOf code idm selector first second elements blockData values pack in
-      let z : elementsOf d ≡ elements = zip-lists elements in
+      let d : Command = commandOf code idm selector first second (elementsIn fs) blockData values pack in
+      let z : elementsOf d ≡ elementsIn fs = zip-lists (elementsIn fs) in
+      let n : length (elementsIn fs) ≡ length fs = length-map fs (λ f. f .element) in
       let fits : Fits l d = record {
         idm = ok₁;
         selector = ok₂;
         first = ok₃;
         second = ok₄;
-        lists = one-length elements d refl refl refl;
+        lists = one-length (elementsIn fs) d refl refl refl;
         elements = rw z ok₅;
-        blockData = rw z ok₆;
+        blockData = rw (z, n) ok₆;
         values = o .0;
         pack = o .1;
       } in
       let is : s ≡ bodyBytes l forms d ++ s₈ = rw z (simp append-assoc (rw (is₁, is₂, is₃, is₄, is₅, is₆, o .3))) in
-      subst₂ (λ (x : Command) (y : List ℕ). Body l code s x y) (taken-value e₈) (taken-rest e₈)
-      (record { forms = forms; same = refl; ok = of-fits l d fits; left = o .2; is = is })
+      let long : longCount fs ≡ longIn forms (elementsOf d) = rw z (ap longCount (sym same₅) ∙ inForms-long forms (elementsIn fs)) in
+      subst₂ (λ (x : Counted) (y : List ℕ). Body l code s x y) (taken-value e₈) (taken-rest e₈)
+      (record { forms = forms; same = refl; long = long; ok = of-fits l d fits; left = o .2; is = is })
 
   pub body-small : (forms : Forms) (c : Command) → bodyOk l c ≡ true → Bytes (bodyBytes l forms c)
   unfolding bodyBytes
   body-small forms c ok =
       let h = fits-of l c ok in
       simp allBelow-++
-      (and-both (idm-laws (l .idm) .small tt (c .idm) (h .idm))
-      (and-both (selector-laws (l .selector) .small tt (c .selector) (h .selector))
-      (and-both (codes-laws 9 10 (l .first) (n .first) .small tt (c .first) (h .first))
-      (and-both (codes-laws 11 12 (l .second) (n .second) .small tt (c .second) (h .second))
-      (and-both (elements-laws 9 10 (l .elements) .small forms (elementsOf c) (h .elements))
-      (and-both (data-laws (l .blockData) (length (elementsOf c)) .small tt (c .blockData) (h .blockData))
+      (and-both (idm-laws (l .idm) .small (c .idm) (h .idm))
+      (and-both (selector-laws (l .selector) .small (c .selector) (h .selector))
+      (and-both (codes-laws 9 10 (l .first) (n .first) .small (c .first) (h .first))
+      (and-both (codes-laws 11 12 (l .second) (n .second) .small (c .second) (h .second))
+      (and-both (elements-small (l .elements) forms (elementsOf c) (h .elements))
+      (and-both (data-laws (l .blockData) (length (elementsOf c)) .small (c .blockData) (h .blockData))
       (and-both (ending-small (l .ending) (endFieldsOf c) (h .values)) (package-small (l .behind) (c .issuePackage) (h .pack)))))))))
 
 -- a body is the same before and after its elements, whatever their forms

@@ -14,14 +14,15 @@ use borrow.Author.Tests.{eqb-true, eq-eqb, leb-true, le-leb}
 use Rattle.felica_format.specs.declared.classes.Class.{Class}
 use Rattle.felica_format.specs.declared.classes.Class.the-variants.{Plain, Secure, Unknown}
 use Rattle.felica_format.specs.Basic.{Bytes, Step, taken, refuse}
-use Rattle.felica_format.specs.Command.{Command}
+use Rattle.felica_format.specs.Command.{Command, elementsOf}
 use Rattle.felica_format.specs.Layout.{Layout, classOf, layoutOf}
-use Rattle.felica_format.specs.Read.{gives, refused, answerOf, readPlainAs, readSecureAs, readBody, readPayload, readFrame, readSecure}
-use Rattle.felica_format.specs.Write.{Forms, longBytes, bodyBytes, secureOf, frameOf}
+use Rattle.felica_format.specs.Read.{Counted, counted, gives, refused, answerOf, readPlainAs, readSecureAs, readBody, readPayload, readFrame, readSecure}
+use Rattle.felica_format.specs.Write.{Forms, longBytes, longIn, bodyBytes, secureOf, frameOf}
 use Rattle.felica_format.specs.Writable.{bodyOk, fitsClass, writable, shortest, written}
 use Rattle.felica_format.specs.Demand3.{FrameGives, PayloadGives, HasFrame, HasPayload, MayFollow, Around, FramesAreChoices, PayloadsAreChoices}
 use Rattle.felica_format.specs.Demand3.{ShortFrameAccepted, ShortPayloadAccepted, OtherFramesLonger, OtherPayloadsLonger}
-use Rattle.felica_format.specs.Demand3.{ShortFrameWritten, ShortPayloadWritten, UnwritableExactly, FrameReadBack, PayloadReadBack, TwoFrames, TwoPayloads, OneFormFrom256}
+use Rattle.felica_format.specs.Demand3.{ShortFrameWritten, ShortPayloadWritten, UnwritableExactly, FrameReadBack, PayloadReadBack, TwoFrames, TwoPayloads}
+use Rattle.felica_format.specs.Demand3.{FrameLongCounted, PayloadLongCounted, OneFormFrom256}
 use Rattle.felica_format.proofs.Steps.{not-given}
 use Rattle.felica_format.proofs.Tests.{tests, and-left, and-right, and-both}
 use Rattle.felica_format.proofs.Bytes.{allBelow-++, head-below}
@@ -31,33 +32,36 @@ use Rattle.felica_format.proofs.Body.{Narrow, Body, body-back, body-onl
 use Rattle.felica_format.proofs.Rows.{plain-code, plain-layout, secure-layout, plain-left, secure-left, secure-follows}
 
 -- ── what was accepted ───────────────────────────────────────────────────────
-answer-gives : (code : ℕ) (m : Step Command) (c : Command) → answerOf code m ≡ gives c → (rest : List ℕ) × (m ≡ taken c rest)
-answer-gives code (taken d rest) c e = (rest, cc)
-answer-gives code (refuse n) c e = absurd (not-given e)
+answer-gives : (code : ℕ) (m : Step Counted) (c : Command) (long : ℕ) → answerOf code m ≡ gives c long → (rest : List ℕ) × (m ≡ taken (counted c long) rest)
+answer-gives code (taken r rest) c long e =
+    let p : r .command ≡ c = cc in
+    let q : r .long ≡ long = cc in
+    (rest, λ i. taken (counted (p i) (q i)) rest)
+answer-gives code (refuse n) c long e = absurd (not-given e)
 
-plain-gives : (k : Class) (code : ℕ) (s : List ℕ) (c : Command) → readPlainAs k code s ≡ gives c
-    → (k ≡ Plain) × (rest : List ℕ) × (readBody code (layoutOf code) s ≡ taken c rest)
-plain-gives Plain code s c e = let a = answer-gives code (readBody code (layoutOf code) s) c e in (refl, a .0, a .1)
-plain-gives Secure code s c e = absurd (not-given e)
-plain-gives Unknown code s c e = absurd (not-given e)
+plain-gives : (k : Class) (code : ℕ) (s : List ℕ) (c : Command) (long : ℕ) → readPlainAs k code s ≡ gives c long
+    → (k ≡ Plain) × (rest : List ℕ) × (readBody code (layoutOf code) s ≡ taken (counted c long) rest)
+plain-gives Plain code s c long e = let a = answer-gives code (readBody code (layoutOf code) s) c long e in (refl, a .0, a .1)
+plain-gives Secure code s c long e = absurd (not-given e)
+plain-gives Unknown code s c long e = absurd (not-given e)
 
 -- the length byte is right, the code plain, and its body was taken
-abbrev pub Opened : ℕ → ℕ → List ℕ → Command → Type 0
-Opened n code body c = (n ≡ suc (suc (length body))) × (classOf code ≡ Plain) × (rest : List ℕ) × (readBody code (layoutOf code) body ≡ taken c rest)
+abbrev pub Opened : ℕ → ℕ → List ℕ → Counted → Type 0
+Opened n code body r = (n ≡ suc (suc (length body))) × (classOf code ≡ Plain) × (rest : List ℕ) × (readBody code (layoutOf code) body ≡ taken r rest)
 
-pub frame-gives : (n code : ℕ) (body : List ℕ) (c : Command) → readFrame (n ∷ code ∷ body) ≡ gives c → Opened n code body c
+pub frame-gives : (n code : ℕ) (body : List ℕ) (c : Command) (long : ℕ) → readFrame (n ∷ code ∷ body) ≡ gives c long → Opened n code body (counted c long)
 unfolding readFrame readPayload
-frame-gives n code body c e = go (eqb n (suc (suc (length body)))) refl e
+frame-gives n code body c long e = go (eqb n (suc (suc (length body)))) refl e
   where
-    go : (b : Bool) → eqb n (suc (suc (length body))) ≡ b → cond b (readPayload (code ∷ body)) (refused 2 none) ≡ gives c → Opened n code body c
+    go : (b : Bool) → eqb n (suc (suc (length body))) ≡ b → cond b (readPayload (code ∷ body)) (refused 2 none) ≡ gives c long → Opened n code body (counted c long)
     go false size e = absurd (not-given e)
-    go true size e = let g = plain-gives (classOf code) code body c e in (eqb-true _ _ size, g .0, g .1, g .2)
+    go true size e = let g = plain-gives (classOf code) code body c long e in (eqb-true _ _ size, g .0, g .1, g .2)
 
-secure-gives : (k : Class) (code : ℕ) (s : List ℕ) (c : Command) → readSecureAs k code s ≡ gives c
-    → (k ≡ Secure) × (rest : List ℕ) × (readBody code (layoutOf code) s ≡ taken c rest)
-secure-gives Plain code s c e = absurd (not-given e)
-secure-gives Secure code s c e = let a = answer-gives code (readBody code (layoutOf code) s) c e in (refl, a .0, a .1)
-secure-gives Unknown code s c e = absurd (not-given e)
+secure-gives : (k : Class) (code : ℕ) (s : List ℕ) (c : Command) (long : ℕ) → readSecureAs k code s ≡ gives c long
+    → (k ≡ Secure) × (rest : List ℕ) × (readBody code (layoutOf code) s ≡ taken (counted c long) rest)
+secure-gives Plain code s c long e = absurd (not-given e)
+secure-gives Secure code s c long e = let a = answer-gives code (readBody code (layoutOf code) s) c long e in (refl, a .0, a .1)
+secure-gives Unknown code s c long e = absurd (not-given e)
 
 -- an accepted body is a choice of forms of its command, with what is left behind it
 record Accepted (k : Class) (code : ℕ) (s : List ℕ) (c : Command) : Type 0 where
@@ -69,11 +73,11 @@ record Accepted (k : Class) (code : ℕ) (s : List ℕ) (c : Command) : Type 0 w
   left : Left (layoutOf (c .code) .behind) rest
   is : s ≡ bodyBytes (layoutOf (c .code)) forms c ++ rest
 
-accepted : (k : Class) (code : ℕ) (s : List ℕ) (c : Command) (rest : List ℕ) → classOf code ≡ k → Narrow (layoutOf code) → Bytes s
-    → readBody code (layoutOf code) s ≡ taken c rest → Accepted k code s c
-accepted k code s c rest class narrow small e = go (body-only (layoutOf code) narrow code s c rest small e)
+accepted : (k : Class) (code : ℕ) (s : List ℕ) (c : Command) (long : ℕ) (rest : List ℕ) → classOf code ≡ k → Narrow (layoutOf code) → Bytes s
+    → readBody code (layoutOf code) s ≡ taken (counted c long) rest → Accepted k code s c
+accepted k code s c long rest class narrow small e = go (body-only (layoutOf code) narrow code s (counted c long) rest small e)
   where
-    go : Body (layoutOf code) code s c rest → Accepted k code s c
+    go : Body (layoutOf code) code s (counted c long) rest → Accepted k code s c
     go b =
         let back = sym (b .same) in
         record {
@@ -109,16 +113,16 @@ framed-by n code body c size small a =
 
 framed : (s : List ℕ) (c : Command) → FrameGives s c → Framed s c
 unfolding readFrame readPayload
-framed [] c (small, e) = absurd (not-given e)
-framed (n ∷ []) c (small, e) = absurd (empty (eqb n 1) e)
+framed [] c (small, long, e) = absurd (not-given e)
+framed (n ∷ []) c (small, long, e) = absurd (empty (eqb n 1) e)
   where
-    empty : (b : Bool) → cond b (refused 3 none) (refused 2 none) ≡ gives c → ⊥
+    empty : (b : Bool) → cond b (refused 3 none) (refused 2 none) ≡ gives c long → ⊥
     empty true e = not-given e
     empty false e = not-given e
-framed (n ∷ code ∷ body) c (small, e) =
-    let (size, class, rest, read) = frame-gives n code body c e in
+framed (n ∷ code ∷ body) c (small, long, e) =
+    let (size, class, rest, read) = frame-gives n code body c long e in
     framed-by n code body c size (head-below 256 n (code ∷ body) small)
-    (accepted Plain code body c rest class (plain-layout code class) (and-right _ _ (and-right _ _ small)) read)
+    (accepted Plain code body c long rest class (plain-layout code class) (and-right _ _ (and-right _ _ small)) read)
 
 frame-back : (forms : Forms) (c : Command) → classOf (c .code) ≡ Plain → bodyOk (layoutOf (c .code)) c ≡ true → length (frameOf forms c) ≤ 255 → FrameGives (frameOf forms c) c
 unfolding readFrame readPayload frameOf
@@ -127,8 +131,10 @@ frame-back forms c class ok short =
     let b : List ℕ = bodyBytes l forms c in
     let narrow = plain-layout (c .code) class in
     let code = plain-code (c .code) class in
-    let r : readBody (c .code) l b ≡ taken c [] = rw append-nil at (body-back l narrow forms c [] ok (left-none (l .behind))) in (
+    let long : ℕ = longIn forms (elementsOf c) in
+    let r : readBody (c .code) l b ≡ taken (counted c long) [] = rw append-nil at (body-back l narrow forms c [] ok (left-none (l .behind))) in (
       and-both (omega tests) (and-both (omega tests) (body-small l narrow forms c ok)),
+      long,
       rw (eq-eqb (suc (suc (length b))) (suc (suc (length b))) refl, class, r),
     )
 
@@ -164,9 +170,9 @@ frame-around s c f =
 -- ── secure payloads ─────────────────────────────────────────────────────────
 secured : (code : ℕ) (s : List ℕ) (c : Command) → PayloadGives code s c → Accepted Secure code s c
 unfolding readSecure
-secured code s c (small, e) =
-    let g = secure-gives (classOf code) code s c e in
-    accepted Secure code s c (g .1) (g .0) (secure-layout code (g .0)) small (g .2)
+secured code s c (small, long, e) =
+    let g = secure-gives (classOf code) code s c long e in
+    accepted Secure code s c long (g .1) (g .0) (secure-layout code (g .0)) small (g .2)
 
 payload-back : (forms : Forms) (c : Command) (rest : List ℕ) → classOf (c .code) ≡ Secure → bodyOk (layoutOf (c .code)) c ≡ true → Left (layoutOf (c .code) .behind) rest
     → PayloadGives (c .code) (secureOf forms c ++ rest) c
@@ -175,6 +181,7 @@ payload-back forms c rest class ok left =
     let l : Layout = layoutOf (c .code) in
     let narrow = secure-layout (c .code) class in (
       rw allBelow-++ (and-both (body-small l narrow forms c ok) (left-small (l .behind) rest left)),
+      longIn forms (elementsOf c),
       rw (class, body-back l narrow forms c rest ok left),
     )
 
@@ -337,6 +344,18 @@ two-payloads c s t gs gt =
       payload-around (c .code) s c a,
       payload-around (c .code) t c b,
     )
+
+pub frame-long-counted : FrameLongCounted
+unfolding frame-back
+frame-long-counted c (t, g) forms short =
+    let f = framed t c g in
+    frame-back forms c (f .class) (f .ok) short .2
+
+pub payload-long-counted : PayloadLongCounted
+unfolding payload-back
+payload-long-counted c (k, t, g) forms tail follows =
+    let a = secured k t c g in
+    payload-back forms c tail (a .class) (a .ok) (secure-follows (c .code) tail (a .class) follows) .2
 
 pub one-form-from-256 : OneFormFrom256
 one-form-from-256 long e h = by-form (λ (w : List ℕ). w ≡ longBytes e) long e (λ below. absurd (omega arith)) (λ why. refl)

@@ -2,22 +2,22 @@
 -- Assumes nothing.
 use Prim.Native.Nat.{ℕ, zero, suc, _+_, _*_, _/_, _%_, _≤_, _<_}
 use native.Mathlib.Omega.{arith}
-use mathlib.Core.Path.{_≡_, refl, ap, _∙_}
+use mathlib.Core.Path.{_≡_, refl, sym, ap, _∙_}
 use mathlib.Core.Logic.{_⊎_, inl, inr}
-use mathlib.Core.Bool.{Bool, true, false, not, cond, true≢false}
-use mathlib.Core.List.{List, [], _∷_, _++_, append-assoc}
-use lib.ListN.{length, length-append}
-use lib.Dec.{ltb, eqb}
+use mathlib.Core.Bool.{Bool, true, false, not, cond, _||_, true≢false}
+use mathlib.Core.List.{List, [], _∷_, _++_, append-assoc, map}
+use lib.ListN.{length, length-append, length-map}
+use lib.Dec.{ltb, leb, eqb}
 use borrow.Author.Tests.{ltb-true, ltb-false, eqb-true, eq-eqb}
 use Rattle.felica_format.specs.Basic.{_and_, Bytes, taken, bind}
-use Rattle.felica_format.specs.Command.{Element}
-use Rattle.felica_format.specs.Read.{elementOf, readShort, readLong, readElement, readEach, readElements}
-use Rattle.felica_format.specs.Write.{Forms, headOf, shortBytes, longBytes, elementBytes, eachBytes, elementsBytes}
-use Rattle.felica_format.specs.Writable.{isEmpty, elementOk, eachOk, elementsOk}
+use Rattle.felica_format.specs.Command.{Element, Formed, longCount}
+use Rattle.felica_format.specs.Read.{formed, readShort, readLong, readElement, readEach, readElements}
+use Rattle.felica_format.specs.Write.{Forms, headOf, shortBytes, longBytes, isShort, elementBytes, eachBytes, longIn, elementsBytes}
+use Rattle.felica_format.specs.Writable.{elementOk, eachOk, elementsOk}
 use Rattle.felica_format.proofs.Tests.{tests, and-left, and-right, and-both, isEmpty-true}
 use Rattle.felica_format.proofs.Bytes.{allBelow-++, bytes-right, head-below, tail-below}
 use Rattle.felica_format.proofs.Steps.{taken-value, taken-rest, none-taken, bind-taken}
-use Rattle.felica_format.proofs.Laws.{Laws, absent-laws, counted-laws}
+use Rattle.felica_format.proofs.Laws.{Laws, counted-laws}
 
 same-element : {n n′ p p′ m m′ : ℕ} → n ≡ n′ → p ≡ p′ → m ≡ m′
     → _≡_ {A = Element} (record { number = n; place = p; mode = m }) (record { number = n′; place = p′; mode = m′ })
@@ -33,22 +33,22 @@ module _ (e : Element) (ok : elementOk e ≡ true) where
   mode-small : e .mode < 8
   mode-small = ltb-true _ _ (and-right _ _ (and-right _ _ ok))
 
-  short-back : e .number < 256 → (rest : List ℕ) → readElement (shortBytes e ++ rest) ≡ taken e rest
+  short-back : e .number < 256 → (rest : List ℕ) → readElement (shortBytes e ++ rest) ≡ taken (formed false e) rest
   unfolding readElement readShort shortBytes
   short-back h rest =
       let p = place-small in
       let m = mode-small in
       let set : ltb (128 + headOf e) 128 ≡ false = omega tests in
-      rw set (ap (λ (x : Element). taken x rest) (same-element refl (omega arith) (omega arith)))
+      rw set (ap (λ (x : Element). taken (formed false x) rest) (same-element refl (omega arith) (omega arith)))
 
-  long-back : (rest : List ℕ) → readElement (longBytes e ++ rest) ≡ taken e rest
+  long-back : (rest : List ℕ) → readElement (longBytes e ++ rest) ≡ taken (formed true e) rest
   unfolding readElement readLong longBytes
   long-back rest =
       let n = number-small in
       let p = place-small in
       let m = mode-small in
       let clear : ltb (headOf e) 128 ≡ true = omega tests in
-      rw clear (ap (λ (x : Element). taken x rest) (same-element (omega arith) (omega arith) (omega arith)))
+      rw clear (ap (λ (x : Element). taken (formed true x) rest) (same-element (omega arith) (omega arith) (omega arith)))
 
   short-small : e .number < 256 → Bytes (shortBytes e)
   unfolding shortBytes
@@ -77,21 +77,32 @@ by-form P long e short other = go long _ (λ h. omega tests) (λ h. omega tests)
     go false false below above other = other (λ q. above refl)
     go true b below above other = other (λ q. absurd (true≢false q))
 
-element-back : (long : Bool) (e : Element) (rest : List ℕ) → elementOk e ≡ true → readElement (elementBytes long e ++ rest) ≡ taken e rest
-element-back long e rest ok = by-form (λ (w : List ℕ). readElement (w ++ rest) ≡ taken e rest) long e (λ h. short-back e ok h rest) (λ why. long-back e ok rest)
+-- ── an element in its form ──────────────────────────────────────────────────
+formBytes : Formed → List ℕ
+formBytes f = cond (f .long) (longBytes (f .element)) (shortBytes (f .element))
 
-element-small : (long : Bool) (e : Element) → elementOk e ≡ true → Bytes (elementBytes long e)
-element-small long e ok = by-form Bytes long e (short-small e ok) (λ why. long-small e ok)
+-- the short form only below 256
+formOk : Formed → Bool
+formOk f = elementOk (f .element) and (f .long || ltb (f .element .number) 256)
 
--- what was read as an element is one of its forms
-Form : List ℕ → Element → List ℕ → Type 0
-Form s e rest = (long : Bool) × (elementOk e ≡ true) × (s ≡ elementBytes long e ++ rest)
+form-back : (long : Bool) (e : Element) (rest : List ℕ) → formOk (formed long e) ≡ true → readElement (formBytes (formed long e) ++ rest) ≡ taken (formed long e) rest
+unfolding formOk formBytes
+form-back true e rest ok = long-back e (and-left _ _ ok) rest
+form-back false e rest ok = short-back e (and-left _ _ ok) (ltb-true _ _ (and-right _ _ ok)) rest
 
-long-only : (head : ℕ) (s : List ℕ) (e : Element) (rest : List ℕ) → head < 128 → Bytes s → readLong head s ≡ taken e rest → Form (head ∷ s) e rest
-unfolding Form readLong elementBytes longBytes _and_
-long-only head [] e rest h small r = absurd (none-taken r)
-long-only head (a ∷ []) e rest h small r = absurd (none-taken r)
-long-only head (a ∷ b ∷ s) e rest h small r =
+form-small : (long : Bool) (e : Element) → formOk (formed long e) ≡ true → Bytes (formBytes (formed long e))
+unfolding formOk formBytes
+form-small true e ok = long-small e (and-left _ _ ok)
+form-small false e ok = short-small e (and-left _ _ ok) (ltb-true _ _ (and-right _ _ ok))
+
+Form : List ℕ → Formed → List ℕ → Type 0
+Form s f rest = (formOk f ≡ true) × (s ≡ formBytes f ++ rest)
+
+long-only : (head : ℕ) (s : List ℕ) (f : Formed) (rest : List ℕ) → head < 128 → Bytes s → readLong head s ≡ taken f rest → Form (head ∷ s) f rest
+unfolding Form formOk formBytes readLong longBytes
+long-only head [] f rest h small r = absurd (none-taken r)
+long-only head (a ∷ []) f rest h small r = absurd (none-taken r)
+long-only head (a ∷ b ∷ s) f rest h small r =
     let ha : a < 256 = head-below 256 a (b ∷ s) small in
     let hb : b < 256 = head-below 256 b s (tail-below 256 a (b ∷ s) small) in
     let n : ltb (a + 256 * b) 65536 ≡ true = omega tests in
@@ -100,87 +111,237 @@ long-only head (a ∷ b ∷ s) e rest h small r =
     let first : 16 * (head / 16 % 8) + head % 16 ≡ head = omega arith in
     let low : (a + 256 * b) % 256 ≡ a = omega arith in
     let high : (a + 256 * b) / 256 ≡ b = omega arith in
-    (true, rw (← taken-value r) (rw (n, p, m)), rw (← taken-value r, ← taken-rest r, first, low, high))
+    (rw (← taken-value r) (and-both (and-both n (and-both p m)) refl), rw (← taken-value r, ← taken-rest r, first, low, high))
 
-short-only : (head : ℕ) (s : List ℕ) (e : Element) (rest : List ℕ) → 128 ≤ head → head < 256 → Bytes s → readShort head s ≡ taken e rest → Form (head ∷ s) e rest
-unfolding Form readShort shortBytes
-short-only head [] e rest l h small r = absurd (none-taken r)
-short-only head (a ∷ s) e rest l h small r =
+short-only : (head : ℕ) (s : List ℕ) (f : Formed) (rest : List ℕ) → 128 ≤ head → head < 256 → Bytes s → readShort head s ≡ taken f rest → Form (head ∷ s) f rest
+unfolding Form formOk formBytes readShort shortBytes
+short-only head [] f rest l h small r = absurd (none-taken r)
+short-only head (a ∷ s) f rest l h small r =
     let ha : a < 256 = head-below 256 a s small in
     let n : ltb a 65536 ≡ true = omega tests in
     let p : ltb (head % 16) 16 ≡ true = omega tests in
     let m : ltb (head / 16 % 8) 8 ≡ true = omega tests in
     let first : 128 + (16 * (head / 16 % 8) + head % 16) ≡ head = omega arith in
-    let short : head ∷ a ∷ s ≡ shortBytes (elementOf head a) ++ s = rw first in
-    let is : head ∷ a ∷ s ≡ elementBytes false (elementOf head a) ++ s =
-    by-form (λ (w : List ℕ). head ∷ a ∷ s ≡ w ++ s) false (elementOf head a) (λ h. short) (λ why. let from = why refl in absurd (omega arith)) in
-    (false, rw (← taken-value r) (and-both n (and-both p m)), rw (← taken-value r, ← taken-rest r) is)
+    (rw (← taken-value r) (and-both (and-both n (and-both p m)) (omega tests)), rw (← taken-value r, ← taken-rest r, first))
 
-element-only : (s : List ℕ) (e : Element) (rest : List ℕ) → Bytes s → readElement s ≡ taken e rest → Form s e rest
+element-only : (s : List ℕ) (f : Formed) (rest : List ℕ) → Bytes s → readElement s ≡ taken f rest → Form s f rest
 unfolding readElement
-element-only [] e rest small r = absurd (none-taken r)
-element-only (head ∷ s) e rest small r = go (ltb head 128) refl r
+element-only [] f rest small r = absurd (none-taken r)
+element-only (head ∷ s) f rest small r = go (ltb head 128) refl r
   where
-    go : (b : Bool) → ltb head 128 ≡ b → cond b (readLong head s) (readShort head s) ≡ taken e rest → Form (head ∷ s) e rest
-    go true h r = long-only head s e rest (ltb-true _ _ h) (and-right _ _ small) r
-    go false h r = short-only head s e rest (ltb-false _ _ h) (ltb-true _ _ (and-left _ _ small)) (and-right _ _ small) r
+    go : (b : Bool) → ltb head 128 ≡ b → cond b (readLong head s) (readShort head s) ≡ taken f rest → Form (head ∷ s) f rest
+    go true h r = long-only head s f rest (ltb-true _ _ h) (and-right _ _ small) r
+    go false h r = short-only head s f rest (ltb-false _ _ h) (ltb-true _ _ (and-left _ _ small)) (and-right _ _ small) r
 
--- n elements
-abbrev eachIn : ℕ → List Element → Bool
-eachIn n es = eqb (length es) n and eachOk es
+form-rest : (s : List ℕ) (f : Formed) (t : List ℕ) → Bytes s → Form s f t → Bytes t
+unfolding Form
+form-rest s f t small k = bytes-right (formBytes f) t (rw (k .1) at small)
 
-each-back : (forms : Forms) (es : List Element) (rest : List ℕ) → eachOk es ≡ true → readEach (length es) (eachBytes forms es ++ rest) ≡ taken es rest
-unfolding readEach eachBytes eachOk bind
-each-back forms [] rest ok = refl
-each-back [] (e ∷ es) rest ok =
-    rw (append-assoc, element-back false e (eachBytes [] es ++ rest) (and-left _ _ ok), each-back [] es rest (and-right _ _ ok))
-each-back (long ∷ forms) (e ∷ es) rest ok =
-    rw (append-assoc, element-back long e (eachBytes forms es ++ rest) (and-left _ _ ok), each-back forms es rest (and-right _ _ ok))
+-- ── n of them ───────────────────────────────────────────────────────────────
+formsBytes : List Formed → List ℕ
+formsBytes [] = []
+formsBytes (f ∷ fs) = formBytes f ++ formsBytes fs
 
-Each : ℕ → List ℕ → List Element → List ℕ → Type 0
-Each n s es rest = (forms : Forms) × (eachIn n es ≡ true) × (s ≡ eachBytes forms es ++ rest)
+formsOk : List Formed → Bool
+formsOk [] = true
+formsOk (f ∷ fs) = formOk f and formsOk fs
 
-each-step : (n : ℕ) (s : List ℕ) (e : Element) (t : List ℕ) (ds : List Element) (u : List ℕ) (es : List Element) (rest : List ℕ)
-    → Form s e t → Each n t ds u → taken (e ∷ ds) u ≡ taken es rest → Each (suc n) s es rest
-unfolding Form Each eachOk eachBytes
-each-step n s e t ds u es rest f k r =
-    let len : length ds ≡ n = eqb-true _ _ (and-left _ _ (k .1)) in (
-      f .0 ∷ k .0,
-      rw (← taken-value r) (and-both (eq-eqb _ _ (ap suc len)) (and-both (f .1) (and-right _ _ (k .1)))),
-      rw (← taken-value r, ← taken-rest r, append-assoc) (f .2 ∙ ap (λ (x : List ℕ). elementBytes (f .0) e ++ x) (k .2)),
+abbrev eachIn : ℕ → List Formed → Bool
+eachIn n fs = eqb (length fs) n and formsOk fs
+
+each-back : (fs : List Formed) (rest : List ℕ) → formsOk fs ≡ true → readEach (length fs) (formsBytes fs ++ rest) ≡ taken fs rest
+unfolding readEach formsBytes formsOk bind
+each-back [] rest ok = refl
+each-back (f ∷ fs) rest ok =
+    rw (append-assoc, form-back (f .long) (f .element) (formsBytes fs ++ rest) (and-left _ _ ok), each-back fs rest (and-right _ _ ok))
+
+Each : ℕ → List ℕ → List Formed → List ℕ → Type 0
+Each n s fs rest = (eachIn n fs ≡ true) × (s ≡ formsBytes fs ++ rest)
+
+each-step : (n : ℕ) (s : List ℕ) (f : Formed) (t : List ℕ) (ds : List Formed) (u : List ℕ) (fs : List Formed) (rest : List ℕ)
+    → Form s f t → Each n t ds u → taken (f ∷ ds) u ≡ taken fs rest → Each (suc n) s fs rest
+unfolding Form Each formsOk formsBytes
+each-step n s f t ds u fs rest h k r =
+    let len : length ds ≡ n = eqb-true _ _ (and-left _ _ (k .0)) in (
+      rw (← taken-value r) (and-both (eq-eqb _ _ (ap suc len)) (and-both (h .0) (and-right _ _ (k .0)))),
+      rw (← taken-value r, ← taken-rest r, append-assoc) (h .1 ∙ ap (λ (x : List ℕ). formBytes f ++ x) (k .1)),
     )
 
-form-rest : (s : List ℕ) (e : Element) (t : List ℕ) → Bytes s → Form s e t → Bytes t
-unfolding Form
-form-rest s e t small f = bytes-right (elementBytes (f .0) e) t (rw (f .2) at small)
-
-each-only : (n : ℕ) (s : List ℕ) (es : List Element) (rest : List ℕ) → Bytes s → readEach n s ≡ taken es rest → Each n s es rest
-unfolding readEach eachBytes eachOk Each
-each-only zero s es rest small r = ([], rw (← taken-value r) (and-both refl refl), rw (← taken-value r) (taken-rest r))
-each-only (suc n) s es rest small r =
+each-only : (n : ℕ) (s : List ℕ) (fs : List Formed) (rest : List ℕ) → Bytes s → readEach n s ≡ taken fs rest → Each n s fs rest
+unfolding readEach formsBytes formsOk Each
+each-only zero s fs rest small r = (rw (← taken-value r) (and-both refl refl), rw (← taken-value r) (taken-rest r))
+each-only (suc n) s fs rest small r =
     let b = bind-taken _ _ r in
     let f = element-only s (b .0) (b .1) small (b .2) in
     let d = bind-taken _ _ (b .3) in
-    each-step n s (b .0) (b .1) (d .0) (d .1) es rest f (each-only n (b .1) (d .0) (d .1) (form-rest s (b .0) (b .1) small f) (d .2)) (d .3)
+    each-step n s (b .0) (b .1) (d .0) (d .1) fs rest f (each-only n (b .1) (d .0) (d .1) (form-rest s (b .0) (b .1) small f) (d .2)) (d .3)
 
-each-small : (forms : Forms) (es : List Element) → eachOk es ≡ true → Bytes (eachBytes forms es)
-unfolding eachBytes eachOk
-each-small forms [] ok = refl
-each-small [] (e ∷ es) ok = rw allBelow-++ (and-both (element-small false e (and-left _ _ ok)) (each-small [] es (and-right _ _ ok)))
-each-small (long ∷ forms) (e ∷ es) ok = rw allBelow-++ (and-both (element-small long e (and-left _ _ ok)) (each-small forms es (and-right _ _ ok)))
+each-small : (fs : List Formed) → formsOk fs ≡ true → Bytes (formsBytes fs)
+unfolding formsBytes formsOk
+each-small [] ok = refl
+each-small (f ∷ fs) ok = rw allBelow-++ (and-both (form-small (f .long) (f .element) (and-left _ _ ok)) (each-small fs (and-right _ _ ok)))
 
-each-laws : (n : ℕ) → Laws Forms (readEach n) eachBytes (eachIn n)
+each-laws : (n : ℕ) → Laws (readEach n) formsBytes (eachIn n)
 unfolding Each
 each-laws n = record {
-  back = λ forms es rest ok. let len : length es ≡ n = eqb-true _ _ (and-left _ _ ok) in rw (← len) (each-back forms es rest (and-right _ _ ok));
-  only = λ s es rest small e. each-only n s es rest small e;
-  small = λ forms es ok. each-small forms es (and-right _ _ ok);
+  back = λ fs rest ok. let len : length fs ≡ n = eqb-true _ _ (and-left _ _ ok) in rw (← len) (each-back fs rest (and-right _ _ ok));
+  only = λ s fs rest small e. each-only n s fs rest small e;
+  small = λ fs ok. each-small fs (and-right _ _ ok);
 }
 
-pub elements-laws : (missing outside : ℕ) (there : Bool) → Laws Forms (readElements missing outside there) (elementsBytes there) (elementsOk there)
-unfolding readElements elementsBytes elementsOk
-elements-laws missing outside false = absent-laws [] [] isEmpty refl (λ es h. isEmpty-true es h)
-elements-laws missing outside true = counted-laws missing outside 1 255 (omega arith) readEach eachBytes eachOk each-laws
+-- ── elements in a choice of forms ───────────────────────────────────────────
+-- each element in the form that the choice gives it
+inForm : Bool → Element → Formed
+inForm long e = formed (not (isShort long e)) e
+
+pub inForms : Forms → List Element → List Formed
+inForms forms [] = []
+inForms [] (e ∷ es) = inForm false e ∷ inForms [] es
+inForms (long ∷ forms) (e ∷ es) = inForm long e ∷ inForms forms es
+
+abbrev pub elementsIn : List Formed → List Element
+elementsIn fs = map (λ f. f .element) fs
+
+abbrev formsIn : List Formed → Forms
+formsIn fs = map (λ f. f .long) fs
+
+module _ (long : Bool) (e : Element) where
+  inForm-bytes : formBytes (inForm long e) ≡ elementBytes long e
+  unfolding formBytes inForm elementBytes
+  inForm-bytes = go (isShort long e)
+    where
+      go : (b : Bool) → cond (not b) (longBytes e) (shortBytes e) ≡ cond b (shortBytes e) (longBytes e)
+      go true = refl
+      go false = refl
+
+  inForm-ok : elementOk e ≡ true → formOk (inForm long e) ≡ true
+  unfolding formOk inForm _and_
+  inForm-ok ok = and-both ok (go long (ltb (e .number) 256))
+    where
+      go : (long b : Bool) → (not (not long and b) || b) ≡ true
+      go true b = refl
+      go false true = refl
+      go false false = refl
+
+  inForm-long : _≡_ {A = ℕ} (cond (inForm long e .long) 1 0) (cond (isShort long e) 0 1)
+  unfolding inForm
+  inForm-long = go (isShort long e)
+    where
+      go : (b : Bool) → _≡_ {A = ℕ} (cond (not b) 1 0) (cond b 0 1)
+      go true = refl
+      go false = refl
+
+  -- an element in the form that it has
+  inForm-same : formOk (formed long e) ≡ true → inForm long e ≡ formed long e
+  unfolding formOk inForm _and_
+  inForm-same ok = go long (ltb (e .number) 256) (and-right (elementOk e) _ ok)
+    where
+      go : (long b : Bool) → (long || b) ≡ true → formed (not (not long and b)) e ≡ formed long e
+      go true b h = refl
+      go false true h = refl
+      go false false h = absurd (true≢false (sym h))
+
+inForms-bytes : (forms : Forms) (es : List Element) → formsBytes (inForms forms es) ≡ eachBytes forms es
+unfolding formsBytes inForms eachBytes
+inForms-bytes forms [] = refl
+inForms-bytes [] (e ∷ es) = rw (inForm-bytes false e, inForms-bytes [] es)
+inForms-bytes (long ∷ forms) (e ∷ es) = rw (inForm-bytes long e, inForms-bytes forms es)
+
+inForms-ok : (forms : Forms) (es : List Element) → eachOk es ≡ true → formsOk (inForms forms es) ≡ true
+unfolding formsOk inForms eachOk
+inForms-ok forms [] ok = refl
+inForms-ok [] (e ∷ es) ok = and-both (inForm-ok false e (and-left _ _ ok)) (inForms-ok [] es (and-right _ _ ok))
+inForms-ok (long ∷ forms) (e ∷ es) ok = and-both (inForm-ok long e (and-left _ _ ok)) (inForms-ok forms es (and-right _ _ ok))
+
+pub inForms-elements : (forms : Forms) (es : List Element) → elementsIn (inForms forms es) ≡ es
+unfolding inForms inForm
+inForms-elements forms [] = refl
+inForms-elements [] (e ∷ es) = ap (λ (r : List Element). e ∷ r) (inForms-elements [] es)
+inForms-elements (long ∷ forms) (e ∷ es) = ap (λ (r : List Element). e ∷ r) (inForms-elements forms es)
+
+pub inForms-long : (forms : Forms) (es : List Element) → longCount (inForms forms es) ≡ longIn forms es
+unfolding inForms longIn
+inForms-long forms [] = refl
+inForms-long [] (e ∷ es) = rw (inForm-long false e, inForms-long [] es)
+inForms-long (long ∷ forms) (e ∷ es) = rw (inForm-long long e, inForms-long forms es)
+
+inForms-same : (fs : List Formed) → formsOk fs ≡ true → inForms (formsIn fs) (elementsIn fs) ≡ fs
+unfolding formsOk inForms
+inForms-same [] ok = refl
+inForms-same (f ∷ fs) ok = rw (inForm-same (f .long) (f .element) (and-left _ _ ok), inForms-same fs (and-right _ _ ok))
+
+elementsIn-ok : (fs : List Formed) → formsOk fs ≡ true → eachOk (elementsIn fs) ≡ true
+unfolding formsOk formOk eachOk
+elementsIn-ok [] ok = refl
+elementsIn-ok (f ∷ fs) ok = and-both (and-left _ _ (and-left _ _ ok)) (elementsIn-ok fs (and-right _ _ ok))
+
+pub inForms-length : (forms : Forms) (es : List Element) → length (inForms forms es) ≡ length es
+unfolding inForms
+inForms-length forms [] = refl
+inForms-length [] (e ∷ es) = ap suc (inForms-length [] es)
+inForms-length (long ∷ forms) (e ∷ es) = ap suc (inForms-length forms es)
+
+-- no more are long than there are
+pub long-few : (fs : List Formed) → longCount fs ≤ length fs
+long-few [] = omega arith
+long-few (f ∷ fs) = go (f .long) (long-few fs)
+  where
+    go : (b : Bool) → longCount fs ≤ length fs → cond b 1 0 + longCount fs ≤ suc (length fs)
+    go true h = omega arith
+    go false h = omega arith
+
+-- ── the block list ──────────────────────────────────────────────────────────
+abbrev blocksOk : List Formed → Bool
+blocksOk fs = leb 1 (length fs) and leb (length fs) 255 and formsOk fs
+
+blocks-laws : (missing outside : ℕ) → Laws (readElements missing outside true) (λ fs. length fs ∷ formsBytes fs) blocksOk
+unfolding readElements
+blocks-laws missing outside = counted-laws missing outside 1 255 (omega arith) readEach formsBytes formsOk each-laws
+
+inForms-blocks : (forms : Forms) (es : List Element) → elementsOk true es ≡ true → blocksOk (inForms forms es) ≡ true
+unfolding elementsOk
+inForms-blocks forms es ok = rw (inForms-length forms es)
+    (and-both (and-left _ _ ok) (and-both (and-left _ _ (and-right _ _ ok)) (inForms-ok forms es (and-right _ _ (and-right _ _ ok)))))
+
+pub elements-back : (missing outside : ℕ) (there : Bool) (forms : Forms) (es : List Element) (rest : List ℕ) → elementsOk there es ≡ true
+    → readElements missing outside there (elementsBytes there forms es ++ rest) ≡ taken (inForms forms es) rest
+unfolding readElements elementsBytes elementsOk inForms
+elements-back missing outside false forms es rest ok = rw (isEmpty-true es ok)
+elements-back missing outside true forms es rest ok =
+    rw (inForms-length forms es, inForms-bytes forms es) at (blocks-laws missing outside .back (inForms forms es) rest (inForms-blocks forms es ok))
+
+pub elements-small : (there : Bool) (forms : Forms) (es : List Element) → elementsOk there es ≡ true → Bytes (elementsBytes there forms es)
+unfolding elementsBytes
+elements-small false forms es ok = refl
+elements-small true forms es ok =
+    rw (inForms-length forms es, inForms-bytes forms es) at (blocks-laws 9 10 .small (inForms forms es) (inForms-blocks forms es ok))
+
+-- what was read as a block list is its elements in a choice of forms
+pub record Blocks (there : Bool) (s : List ℕ) (fs : List Formed) (rest : List ℕ) : Type 0 where
+  pub forms : Forms
+  pub ok : elementsOk there (elementsIn fs) ≡ true
+  pub same : inForms forms (elementsIn fs) ≡ fs
+  pub is : s ≡ elementsBytes there forms (elementsIn fs) ++ rest
+
+pub elements-only : (missing outside : ℕ) (there : Bool) (s : List ℕ) (fs : List Formed) (rest : List ℕ) → Bytes s
+    → readElements missing outside there s ≡ taken fs rest → Blocks there s fs rest
+unfolding readElements elementsBytes elementsOk inForms
+elements-only missing outside false s fs rest small r =
+    let none : [] ≡ fs = taken-value r in
+    record { forms = []; ok = rw (← none); same = rw (← none); is = taken-rest r }
+elements-only missing outside true s fs rest small r =
+    let o = blocks-laws missing outside .only s fs rest small r in
+    let low = and-left _ _ (o .0) in
+    let high = and-left _ _ (and-right _ _ (o .0)) in
+    let all = and-right _ _ (and-right _ _ (o .0)) in
+    let same = inForms-same fs all in
+    let is : formsBytes fs ≡ eachBytes (formsIn fs) (elementsIn fs) = ap formsBytes (sym same) ∙ inForms-bytes (formsIn fs) (elementsIn fs) in
+    record {
+      forms = formsIn fs;
+      ok = rw (length-map fs (λ f. f .element)) (and-both low (and-both high (elementsIn-ok fs all)));
+      same = same;
+      is = rw (length-map fs (λ f. f .element), ← is) (o .1);
+    }
 
 -- the count and the elements apart
 unfoldable pub countBytes : Bool → List Element → List ℕ

@@ -12,11 +12,10 @@ use lib.Dec.{T, leb, ltb, eqb, leb→le}
 use Rattle.felica_format.specs.declared.classes.Class.{Class}
 use Rattle.felica_format.specs.declared.classes.Class.the-variants.{Plain, Secure, Unknown}
 use Rattle.felica_format.specs.Basic.{Step, taken, refuse, bind, refuseIf}
-use Rattle.felica_format.specs.Command.{Command}
 use Rattle.felica_format.specs.Layout.{Selector, noSelector, typeByte, anyByte, Codes, noCodes, _to_, Ending, bytes, word, words, reserved, polling, parameter}
 use Rattle.felica_format.specs.Layout.{Behind, nothing, ignoredBytes, aPackage, Layout, classOf, layoutOf}
 use Rattle.felica_format.specs.Read.{readBytes, readIdm, readSelector, readCount, readWords, readCodes, readShort, readLong, readElement, readEach}
-use Rattle.felica_format.specs.Read.{readElements, readData, readValues, readEnding, readPackage, ifCodes, readBody, refused, answerOf}
+use Rattle.felica_format.specs.Read.{readElements, readData, readValues, readEnding, readPackage, ifCodes, Counted, readBody, refused, answerOf}
 use Rattle.felica_format.specs.Read.{readPlainAs, readSecureAs, readPayload, readFrame, readSecure}
 use Rattle.felica_format.specs.Grounds.{Number, FrameRefusals, PayloadRefusals, SecureRefusals}
 
@@ -122,8 +121,8 @@ body-grounded code l s =
     bind-grounded _ _ (selector-grounded (l .selector) s₁) λ selector s₂.
     bind-grounded _ _ (codes-grounded 9 10 (l .first) s₂ tt tt) λ first s₃.
     bind-grounded _ _ (codes-grounded 11 12 (l .second) s₃ tt tt) λ second s₄.
-    bind-grounded _ _ (elements-grounded _ _ (l .elements) s₄ (if-codes (l .first) 11 9 tt tt) (if-codes (l .first) 12 10 tt tt)) λ elements s₅.
-    bind-grounded _ _ (data-grounded (l .blockData) (length elements) s₅) λ blockData s₆.
+    bind-grounded _ _ (elements-grounded _ _ (l .elements) s₄ (if-codes (l .first) 11 9 tt tt) (if-codes (l .first) 12 10 tt tt)) λ blocks s₅.
+    bind-grounded _ _ (data-grounded (l .blockData) (length blocks) s₅) λ blockData s₆.
     bind-grounded _ _ (ending-grounded (l .ending) (l .behind) s₆) λ values s₇.
     bind-grounded _ _ (package-grounded (l .behind) s₇) λ issuePackage s₈.
     took
@@ -139,7 +138,7 @@ number least greatest i n given code low high e =
     (omega arith, omega arith, cc)
 
 -- the answer to a body
-body-number : (k : ℕ) (m : Step Command) (n : ℕ) (code : Option ℕ) → Grounded m → answerOf k m ≡ refused n code → Number 6 20 n (some k) code
+body-number : (k : ℕ) (m : Step Counted) (n : ℕ) (code : Option ℕ) → Grounded m → answerOf k m ≡ refused n code → Number 6 20 n (some k) code
 body-number k (taken c rest) n code g e = absurd (let z : _≡_ {A = ℕ} 0 1 = cc in omega arith)
 body-number k (refuse i) n code (refuses g) e =
     let h = split (leb 6 i) (leb i 20) g in

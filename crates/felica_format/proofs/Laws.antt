@@ -19,29 +19,24 @@ use Rattle.felica_format.proofs.Steps.{taken-value, taken-rest, none-ta
 --   back    what was written in its range reads back, and leaves what stood behind it
 --   only    what was read of bytes is in its range, written, with what is left behind it
 --   small   what is written is bytes
--- F: what a writer may choose
-pub record Laws {A : Type 0} (F : Type 0) (read : List ℕ → Step A) (write : F → A → List ℕ) (ok : A → Bool) : Type 0 where
-  pub back : (f : F) (a : A) (rest : List ℕ) → ok a ≡ true → read (write f a ++ rest) ≡ taken a rest
-  pub only : (s : List ℕ) (a : A) (rest : List ℕ) → Bytes s → read s ≡ taken a rest → (f : F) × (ok a ≡ true) × (s ≡ write f a ++ rest)
-  pub small : (f : F) (a : A) → ok a ≡ true → Bytes (write f a)
-
--- no choice
-abbrev pub One : Type 0
-One = Unit {0}
+pub record Laws {A : Type 0} (read : List ℕ → Step A) (write : A → List ℕ) (ok : A → Bool) : Type 0 where
+  pub back : (a : A) (rest : List ℕ) → ok a ≡ true → read (write a ++ rest) ≡ taken a rest
+  pub only : (s : List ℕ) (a : A) (rest : List ℕ) → Bytes s → read s ≡ taken a rest → (ok a ≡ true) × (s ≡ write a ++ rest)
+  pub small : (a : A) → ok a ≡ true → Bytes (write a)
 
 -- a part that the layout lacks: nothing is taken, nothing is written, and the value is blank
-pub absent-laws : {A F : Type 0} (f : F) (blank : A) (ok : A → Bool) → ok blank ≡ true → ((a : A) → ok a ≡ true → a ≡ blank)
-    → Laws F (λ s. taken blank s) (λ f a. []) ok
-absent-laws f blank ok blank-ok only-blank = record {
-  back = λ g a rest h. ap (λ x. taken x rest) (sym (only-blank a h));
-  only = λ s a rest small e. (f, subst (λ x. ok x ≡ true) (taken-value e) blank-ok, taken-rest e);
-  small = λ g a h. refl;
+pub absent-laws : {A : Type 0} (blank : A) (ok : A → Bool) → ok blank ≡ true → ((a : A) → ok a ≡ true → a ≡ blank)
+    → Laws (λ s. taken blank s) (λ a. []) ok
+absent-laws blank ok blank-ok only-blank = record {
+  back = λ a rest h. ap (λ x. taken x rest) (sym (only-blank a h));
+  only = λ s a rest small e. (subst (λ x. ok x ≡ true) (taken-value e) blank-ok, taken-rest e);
+  small = λ a h. refl;
 }
 
 -- n bytes
-pub bytes-laws : (n ground : ℕ) → Laws One (readBytes n ground) (λ f a. a) (areBytes n)
+pub bytes-laws : (n ground : ℕ) → Laws (readBytes n ground) (λ a. a) (areBytes n)
 bytes-laws n ground = record {
-  back = λ f a rest ok.
+  back = λ a rest ok.
       let h : length a ≡ n = eqb-true _ _ (and-left _ _ ok) in
       let l : length (a ++ rest) ≡ length a + length rest = length-append a rest in
       let enough : ltb (length (a ++ rest)) n ≡ false = omega tests in
@@ -51,35 +46,34 @@ bytes-laws n ground = record {
       let t = refuseIf-taken _ _ _ e in
       let v : take n s ≡ a = taken-value t in
       let r : drop n s ≡ rest = taken-rest t in (
-        tt,
         rw (← v) (and-both (eq-eqb _ _ (length-take-le n s enough)) (bytes-take n s small)),
         rw (← v, ← r) (sym (take-append-drop n s)),
       );
-  small = λ f a ok. and-right _ _ ok;
+  small = λ a ok. and-right _ _ ok;
 }
 
 -- one byte that passes a test
 pub byte-laws : (read : List ℕ → Step ℕ) (missing ground : ℕ) (bad ok : ℕ → Bool)
     → read [] ≡ refuse missing → ((b : ℕ) (s : List ℕ) → read (b ∷ s) ≡ refuseIf (bad b) ground (taken b s))
     → ((b : ℕ) → ok b ≡ true → (bad b ≡ false) × (b < 256)) → ((b : ℕ) → b < 256 → bad b ≡ false → ok b ≡ true)
-    → Laws One read (λ f b. b ∷ []) ok
+    → Laws read (λ b. b ∷ []) ok
 byte-laws read missing ground bad ok none one good passes = record {
-  back = λ f b rest h. one b rest ∙ refuseIf-pass (bad b) ground (taken b rest) (good b h .0);
+  back = λ b rest h. one b rest ∙ refuseIf-pass (bad b) ground (taken b rest) (good b h .0);
   only = elim [
     | [] ↦ λ b rest small e. absurd (none-taken (sym none ∙ e))
     | a ∷ s ↦ λ b rest small e.
         let r = sym (one a s) ∙ e in
         let t = refuseIf-taken _ _ _ r in
-        (tt, rw (← taken-value t) (passes a (head-below 256 a s small) (refuseIf-passed _ _ _ r)), rw (taken-value t, taken-rest t))
+        (rw (← taken-value t) (passes a (head-below 256 a s small) (refuseIf-passed _ _ _ r)), rw (taken-value t, taken-rest t))
   ];
-  small = λ f b h. let below = good b h .1 in and-both (omega tests) refl;
+  small = λ b h. let below = good b h .1 in and-both (omega tests) refl;
 }
 
 abbrev pub countOk : ℕ → ℕ → ℕ → Bool
 countOk least greatest n = leb least n and leb n greatest
 
 pub count-laws : (missing outside least greatest : ℕ) → greatest < 256
-    → Laws One (readCount missing outside least greatest) (λ f n. n ∷ []) (countOk least greatest)
+    → Laws (readCount missing outside least greatest) (λ n. n ∷ []) (countOk least greatest)
 unfolding readCount
 count-laws missing outside least greatest narrow =
     byte-laws (readCount missing outside least greatest) missing outside (λ n. ltb n least || ltb greatest n) (countOk least greatest) refl (λ n s. refl)
@@ -94,28 +88,27 @@ count-laws missing outside least greatest narrow =
     and-both (omega tests) (omega tests))
 
 -- a count and what it counts, from the laws of each number of things
-pub counted-laws : {A F : Type 0} (missing outside least greatest : ℕ) → greatest < 256
-    → (each : ℕ → List ℕ → Step (List A)) (write : F → List A → List ℕ) (ok : List A → Bool)
-    → ((n : ℕ) → Laws F (each n) write (λ xs. eqb (length xs) n and ok xs))
-    → Laws F (λ s. bind (readCount missing outside least greatest s) each) (λ f xs. length xs ∷ write f xs)
+pub counted-laws : {A : Type 0} (missing outside least greatest : ℕ) → greatest < 256
+    → (each : ℕ → List ℕ → Step (List A)) (write : List A → List ℕ) (ok : List A → Bool)
+    → ((n : ℕ) → Laws (each n) write (λ xs. eqb (length xs) n and ok xs))
+    → Laws (λ s. bind (readCount missing outside least greatest s) each) (λ xs. length xs ∷ write xs)
     (λ xs. leb least (length xs) and leb (length xs) greatest and ok xs)
 counted-laws missing outside least greatest narrow each write ok laws =
     let count = count-laws missing outside least greatest narrow in
     record {
-      back = λ f xs rest h.
+      back = λ xs rest h.
           let c : countOk least greatest (length xs) ≡ true = and-both (and-left _ _ h) (and-left _ _ (and-right _ _ h)) in
-          bind-step _ each (count .back tt (length xs) (write f xs ++ rest) c)
-          ∙ laws (length xs) .back f xs rest (and-both (omega tests) (and-right _ _ (and-right _ _ h)));
+          bind-step _ each (count .back (length xs) (write xs ++ rest) c)
+          ∙ laws (length xs) .back xs rest (and-both (omega tests) (and-right _ _ (and-right _ _ h)));
       only = λ s xs rest small e.
           let b = bind-taken _ _ e in
           let c = count .only s (b .0) (b .1) small (b .2) in
-          let w = laws (b .0) .only (b .1) xs rest (and-right _ _ (rw (c .2) at small)) (b .3) in
-          let len : length xs ≡ b .0 = eqb-true _ _ (and-left _ _ (w .1)) in (
-            w .0,
-            rw len (and-both (and-left _ _ (c .1)) (and-both (and-right _ _ (c .1)) (and-right _ _ (w .1)))),
-            c .2 ∙ ap (λ (r : List ℕ). b .0 ∷ r) (w .2) ∙ ap (λ (n : ℕ). n ∷ (write (w .0) xs ++ rest)) (sym len),
+          let w = laws (b .0) .only (b .1) xs rest (and-right _ _ (rw (c .1) at small)) (b .3) in
+          let len : length xs ≡ b .0 = eqb-true _ _ (and-left _ _ (w .0)) in (
+            rw len (and-both (and-left _ _ (c .0)) (and-both (and-right _ _ (c .0)) (and-right _ _ (w .0)))),
+            c .1 ∙ ap (λ (r : List ℕ). b .0 ∷ r) (w .1) ∙ ap (λ (n : ℕ). n ∷ (write xs ++ rest)) (sym len),
           );
-      small = λ f xs h.
+      small = λ xs h.
           let high : length xs ≤ greatest = leb-true _ _ (and-left _ _ (and-right _ _ h)) in
-          and-both (omega tests) (laws (length xs) .small f xs (and-both (omega tests) (and-right _ _ (and-right _ _ h))));
+          and-both (omega tests) (laws (length xs) .small xs (and-both (omega tests) (and-right _ _ (and-right _ _ h))));
     }

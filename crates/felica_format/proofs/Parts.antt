@@ -17,21 +17,21 @@ use Rattle.felica_format.specs.Writable.{sameList, isEmpty, idmOk, selec
 use Rattle.felica_format.proofs.Tests.{tests, and-left, and-right, and-both, sameList-true, sameList-refl, isEmpty-true}
 use Rattle.felica_format.proofs.Bytes.{head-below}
 use Rattle.felica_format.proofs.Steps.{taken-value, taken-rest, refuseIf-passed, refuseIf-taken, refuseIf-pass}
-use Rattle.felica_format.proofs.Laws.{Laws, One, absent-laws, bytes-laws, byte-laws, counted-laws}
+use Rattle.felica_format.proofs.Laws.{Laws, absent-laws, bytes-laws, byte-laws, counted-laws}
 
-pub idm-laws : (there : Bool) → Laws One (readIdm there) (λ f a. idmBytes there a) (idmOk there)
+pub idm-laws : (there : Bool) → Laws (readIdm there) (idmBytes there) (idmOk there)
 unfolding readIdm idmBytes idmOk
 idm-laws true = bytes-laws 8 6
-idm-laws false = absent-laws tt (zeros 8) (λ a. sameList a (zeros 8)) (sameList-refl (zeros 8)) (λ a h. sameList-true a (zeros 8) h)
+idm-laws false = absent-laws (zeros 8) (λ a. sameList a (zeros 8)) (sameList-refl (zeros 8)) (λ a h. sameList-true a (zeros 8) h)
 
-pub data-laws : (there : Bool) (m : ℕ) → Laws One (readData there m) (λ f a. dataBytes there a) (dataOk there m)
+pub data-laws : (there : Bool) (m : ℕ) → Laws (readData there m) (dataBytes there) (dataOk there m)
 unfolding readData dataBytes dataOk
 data-laws true m = bytes-laws (16 * m) 17
-data-laws false m = absent-laws tt [] isEmpty refl (λ a h. isEmpty-true a h)
+data-laws false m = absent-laws [] isEmpty refl (λ a h. isEmpty-true a h)
 
-pub selector-laws : (selector : Selector) → Laws One (readSelector selector) (λ f a. selectorBytes selector a) (selectorOk selector)
+pub selector-laws : (selector : Selector) → Laws (readSelector selector) (selectorBytes selector) (selectorOk selector)
 unfolding readSelector selectorBytes selectorOk refuseIf
-selector-laws noSelector = absent-laws tt 0 (λ b. eqb b 0) refl (λ b h. eqb-true b 0 h)
+selector-laws noSelector = absent-laws 0 (λ b. eqb b 0) refl (λ b h. eqb-true b 0 h)
 selector-laws typeByte = byte-laws (readSelector typeByte) 7 19 (λ b. ltb 1 b) (λ b. leb b 1) refl (λ b s. refl)
     (λ b h. (omega tests, omega tests)) (λ b small h. omega tests)
 selector-laws anyByte = byte-laws (readSelector anyByte) 7 0 (λ b. false) (λ b. ltb b 256) refl (λ b s. refl)
@@ -79,10 +79,10 @@ wordsOf-only (suc n) (a ∷ b ∷ s) enough small =
       rw (two, low, high) (ap (λ (r : List ℕ). a ∷ b ∷ r) (ih .1)),
     )
 
-words-laws : (n : ℕ) → Laws One (readWords n) (λ f ns. wordsBytes ns) (wordsOk n)
+words-laws : (n : ℕ) → Laws (readWords n) wordsBytes (wordsOk n)
 unfolding readWords
 words-laws n = record {
-  back = λ f ns rest ok.
+  back = λ ns rest ok.
       let h : length ns ≡ n = eqb-true _ _ (and-left _ _ ok) in
       let w = wordsBytes-length ns in
       let l : length (wordsBytes ns ++ rest) ≡ length (wordsBytes ns) + length rest = length-append (wordsBytes ns) rest in
@@ -92,13 +92,13 @@ words-laws n = record {
       let enough : 2 * n ≤ length s = ltb-false _ _ (refuseIf-passed _ _ _ e) in
       let t = refuseIf-taken _ _ _ e in
       let o = wordsOf-only n s enough small in
-      (tt, rw (← taken-value t) (o .0), rw (← taken-value t, ← taken-rest t) (o .1));
-  small = λ f ns ok. wordsBytes-small ns (and-right _ _ ok);
+      (rw (← taken-value t) (o .0), rw (← taken-value t, ← taken-rest t) (o .1));
+  small = λ ns ok. wordsBytes-small ns (and-right _ _ ok);
 }
 
 pub codes-laws : (missing outside : ℕ) (codes : Codes) → boundsOf codes .greatest < 256
-    → Laws One (readCodes missing outside codes) (λ f ns. codesBytes codes ns) (codesOk codes)
+    → Laws (readCodes missing outside codes) (codesBytes codes) (codesOk codes)
 unfolding readCodes codesBytes codesOk
-codes-laws missing outside noCodes narrow = absent-laws tt [] isEmpty refl (λ ns h. isEmpty-true ns h)
+codes-laws missing outside noCodes narrow = absent-laws [] isEmpty refl (λ ns h. isEmpty-true ns h)
 codes-laws missing outside (least to greatest) narrow =
-    counted-laws missing outside least greatest narrow readWords (λ f ns. wordsBytes ns) (λ ns. allBelow 65536 ns) words-laws
+    counted-laws missing outside least greatest narrow readWords wordsBytes (λ ns. allBelow 65536 ns) words-laws

@@ -3,7 +3,7 @@
 -- Assumes nothing.
 use Prim.Native.Nat.{ℕ, _≤_}
 use native.Mathlib.Omega.{arith}
-use mathlib.Core.Path.{_≡_, refl, sym, ap, _∙_}
+use mathlib.Core.Path.{_≡_, refl, sym, ap, ap₂, _∙_}
 use mathlib.Core.Bool.{Bool, true, false}
 use mathlib.Core.List.{List, [], _∷_}
 use lib.ListN.{length, getD, drop, drop-of-length-le}
@@ -13,11 +13,11 @@ use Rattle.felica_format.specs.Basic.{_and_, isOneOf, taken, bind, refus
 use Rattle.felica_format.specs.Command.{Command}
 use Rattle.felica_format.specs.Layout.{plainRows, has, classOf, layoutIn, layoutOf, polling, nothing}
 use Rattle.felica_format.specs.Read.{isTimeSlots, readIdm, readSelector, readCodes, readElements, readData, readValues, readEnding, readPackage, readBody}
-use Rattle.felica_format.specs.Read.{gives, readPayload, readFrame}
+use Rattle.felica_format.specs.Read.{Counted, counted, gives, readPayload, readFrame}
 use Rattle.felica_format.specs.Slots.{timeSlotValues, TimeSlotsAre, pollingOf, PollingFrame, PollingFramesAre}
 use Rattle.felica_format.proofs.Tests.{none-of}
 use Rattle.felica_format.proofs.Bytes.{firsts-drop}
-use Rattle.felica_format.proofs.Steps.{bind-taken, refuseIf-passed, refuseIf-taken, given-is}
+use Rattle.felica_format.proofs.Steps.{bind-taken, refuseIf-passed, refuseIf-taken, given-is, given-long}
 use Rattle.felica_format.proofs.Demand3.{frame-gives}
 use Rattle.felica_format.proofs.Tables.{tableFrom, same-below}
 
@@ -43,13 +43,13 @@ time-slots-are x = go (ltb x 16) refl
 
 -- ── frames of code 00 ───────────────────────────────────────────────────────
 -- what an accepted body has been tested for
-body-passes : (body : List ℕ) (c : Command) (rest : List ℕ) → readBody 0x00 (layoutOf 0x00) body ≡ taken c rest
+body-passes : (body : List ℕ) (r : Counted) (rest : List ℕ) → readBody 0x00 (layoutOf 0x00) body ≡ taken r rest
     → (length body ≡ 4) × (getD body 2 0 ≤ 2) × (isTimeSlots (getD body 3 0) ≡ true)
 unfolding readBody readIdm readSelector readCodes readElements readData readEnding readValues bind layoutOf has layoutIn plainRows
-body-passes body c rest e =
-    let r = bind-taken (readEnding polling nothing body) _ e .2 in
-    let enough : 4 ≤ length body = ltb-false _ _ (refuseIf-passed _ _ _ r) in
-    let r₁ = refuseIf-taken _ _ _ r in
+body-passes body r rest e =
+    let r₀ = bind-taken (readEnding polling nothing body) _ e .2 in
+    let enough : 4 ≤ length body = ltb-false _ _ (refuseIf-passed _ _ _ r₀) in
+    let r₁ = refuseIf-taken _ _ _ r₀ in
     let fits : length body ≤ 4 = ltb-false _ _ (refuseIf-passed _ _ _ r₁) in
     let r₂ = refuseIf-taken _ _ _ r₁ in
     let request : getD body 2 0 ≤ 2 = ltb-false _ _ (refuseIf-passed _ _ _ r₂) in
@@ -61,22 +61,24 @@ four-bytes body e =
     rw none at (firsts-drop 4 body (omega arith))
 
 polling-read : (high low request slots : ℕ) → request ≤ 2 → isOneOf timeSlotValues slots ≡ true
-    → readFrame (0x06 ∷ 0x00 ∷ high ∷ low ∷ request ∷ slots ∷ []) ≡ gives (pollingOf high low request slots)
+    → readFrame (0x06 ∷ 0x00 ∷ high ∷ low ∷ request ∷ slots ∷ []) ≡ gives (pollingOf high low request slots) 0
 unfolding readFrame readPayload readBody readIdm readSelector readCodes readElements readData readEnding readValues readPackage bind refuseIf classOf layoutOf has layoutIn plainRows
 polling-read high low request slots small listed = rw (le-ltb 2 request small, time-slots-are slots ∙ listed)
 
 pub polling-frames-are : PollingFramesAre
-polling-frames-are n body c = (only, back)
+polling-frames-are n body c long = (only, back)
   where
-    only : readFrame (n ∷ 0x00 ∷ body) ≡ gives c → PollingFrame (n ∷ 0x00 ∷ body) c
+    only : readFrame (n ∷ 0x00 ∷ body) ≡ gives c long → PollingFrame (n ∷ 0x00 ∷ body) c × (long ≡ 0)
     only e =
-        let (size, class, rest, read) = frame-gives n 0x00 body c e in
-        let (long, small, slots) = body-passes body c rest read in
+        let (size, class, rest, read) = frame-gives n 0x00 body c long e in
+        let (four, small, slots) = body-passes body (counted c long) rest read in
         let six : n ≡ 6 = omega arith in
-        let is : n ∷ 0x00 ∷ body ≡ 0x06 ∷ 0x00 ∷ getD body 0 0 ∷ getD body 1 0 ∷ getD body 2 0 ∷ getD body 3 0 ∷ [] = λ i. six i ∷ 0x00 ∷ four-bytes body long i in
+        let is : n ∷ 0x00 ∷ body ≡ 0x06 ∷ 0x00 ∷ getD body 0 0 ∷ getD body 1 0 ∷ getD body 2 0 ∷ getD body 3 0 ∷ [] = λ i. six i ∷ 0x00 ∷ four-bytes body four i in
         let listed = sym (time-slots-are (getD body 3 0)) ∙ slots in
         let r = polling-read (getD body 0 0) (getD body 1 0) (getD body 2 0) (getD body 3 0) small listed in
-        (getD body 0 0, getD body 1 0, getD body 2 0, getD body 3 0, is, small, listed, given-is (sym e ∙ ap readFrame is ∙ r))
+        let same = sym e ∙ ap readFrame is ∙ r in
+        ((getD body 0 0, getD body 1 0, getD body 2 0, getD body 3 0, is, small, listed, given-is same), given-long same)
 
-    back : PollingFrame (n ∷ 0x00 ∷ body) c → readFrame (n ∷ 0x00 ∷ body) ≡ gives c
-    back (high, low, request, slots, is, small, listed, same) = ap readFrame is ∙ polling-read high low request slots small listed ∙ ap gives (sym same)
+    back : PollingFrame (n ∷ 0x00 ∷ body) c × (long ≡ 0) → readFrame (n ∷ 0x00 ∷ body) ≡ gives c long
+    back ((high, low, request, slots, is, small, listed, same), none) =
+        ap readFrame is ∙ polling-read high low request slots small listed ∙ ap₂ gives (sym same) (sym none)

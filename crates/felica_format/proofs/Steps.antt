@@ -46,8 +46,11 @@ unfolding bind
 bind-step m next e = rw e
 
 -- an answer that refuses gives no command
-pub not-given : {n : ℕ} {code : Option ℕ} {c : Command} → refused n code ≡ gives c → ⊥
+pub not-given : {n : ℕ} {code : Option ℕ} {c : Command} {long : ℕ} → refused n code ≡ gives c long → ⊥
 not-given e = let z : _≡_ {A = ℕ} 0 1 = cc in omega arith
 
-pub given-is : {c d : Command} → gives c ≡ gives d → c ≡ d
+pub given-is : {c d : Command} {m n : ℕ} → gives c m ≡ gives d n → c ≡ d
 given-is e = cc
+
+pub given-long : {c d : Command} {m n : ℕ} → gives c m ≡ gives d n → m ≡ n
+given-long e = cc

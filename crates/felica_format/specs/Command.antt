@@ -1,7 +1,8 @@
 -- "A command is its code with every fixed field and list that the writer takes, data and package included, zero or empty where the layout
 -- lacks them; two are one when all of these agree. Length byte, counts, reserved bytes, forms and ignored tail are no part of it."
 -- Assumes nothing.
-use Prim.Native.Nat.{ℕ}
+use Prim.Native.Nat.{ℕ, _+_}
+use mathlib.Core.Bool.{Bool, cond}
 use mathlib.Core.List.{List, [], _∷_, map}
 use lib.ListN.{getD, drop}
 use Rattle.felica_format.specs.Basic.{zeros}
@@ -55,6 +56,16 @@ pub record Element : Type 0 where
   pub number : ℕ
   pub place : ℕ
   pub mode : ℕ
+
+-- An element as it stood in the bytes, with the form that it had. The form is no part of the command.
+pub record Formed : Type 0 where
+  pub element : Element
+  pub long : Bool
+
+-- "how many were long"
+abbrev pub longCount : List Formed → ℕ
+longCount [] = 0
+longCount (f ∷ fs) = cond (f .long) 1 0 + longCount fs
 
 -- the elements that the three lists name; a place or mode that is missing counts as 0
 unfoldable pub zipElements : List ℕ → List ℕ → List ℕ → List Element

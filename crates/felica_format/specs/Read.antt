@@ -3,7 +3,7 @@
 -- Assumes nothing.
 use Prim.Native.Nat.{ℕ, zero, suc, _+_, _-_, _*_, _/_, _%_}
 use mathlib.Core.Bool.{Bool, true, false, not, _||_, cond}
-use mathlib.Core.List.{List, [], _∷_, _++_}
+use mathlib.Core.List.{List, [], _∷_, _++_, map}
 use mathlib.Core.Option.{Option, none, some}
 use lib.ListN.{length, getD, take, drop}
 use lib.Dec.{ltb, eqb}
@@ -11,7 +11,7 @@ use lib.Bits.{bitAnd}
 use Rattle.felica_format.specs.declared.classes.Class.{Class}
 use Rattle.felica_format.specs.declared.classes.Class.the-variants.{Plain, Secure, Unknown}
 use Rattle.felica_format.specs.Basic.{_and_, zeros, wordOf, wordAt, Step, taken, refuse, bind, refuseIf}
-use Rattle.felica_format.specs.Command.{EndFields, endFields, Command, Element, commandOf}
+use Rattle.felica_format.specs.Command.{EndFields, endFields, Command, Element, Formed, longCount, commandOf}
 use Rattle.felica_format.specs.Layout.{Selector, noSelector, typeByte, anyByte, Codes, noCodes, _to_, Ending, bytes, word, words, reserved}
 use Rattle.felica_format.specs.Layout.{polling, parameter, Behind, nothing, ignoredBytes, aPackage, Layout, classOf, layoutOf}
 
@@ -53,28 +53,32 @@ readCodes missing outside (least to greatest) s = bind (readCount missing outsid
 abbrev pub elementOf : ℕ → ℕ → Element
 elementOf head number = record { number = number; place = head % 16; mode = head / 16 % 8 }
 
+-- "The reading of one element shall also tell which form it had."
+abbrev pub formed : Bool → Element → Formed
+formed long e = record { element = e; long = long }
+
 -- 15: short block number missing
-unfoldable pub readShort : ℕ → List ℕ → Step Element
+unfoldable pub readShort : ℕ → List ℕ → Step Formed
 readShort head [] = refuse 15
-readShort head (a ∷ s) = taken (elementOf head a) s
+readShort head (a ∷ s) = taken (formed false (elementOf head a)) s
 
 -- 16: long block number not whole
-unfoldable pub readLong : ℕ → List ℕ → Step Element
+unfoldable pub readLong : ℕ → List ℕ → Step Formed
 readLong head [] = refuse 16
 readLong head (a ∷ []) = refuse 16
-readLong head (a ∷ b ∷ s) = taken (elementOf head (wordOf a b)) s
+readLong head (a ∷ b ∷ s) = taken (formed true (elementOf head (wordOf a b))) s
 
 -- "Bit 7 set: one byte of block number follows. Bit 7 clear: two bytes." 14: element's first byte missing
-unfoldable pub readElement : List ℕ → Step Element
+unfoldable pub readElement : List ℕ → Step Formed
 readElement [] = refuse 14
 readElement (head ∷ s) = cond (ltb head 128) (readLong head s) (readShort head s)
 
-unfoldable pub readEach : ℕ → List ℕ → Step (List Element)
+unfoldable pub readEach : ℕ → List ℕ → Step (List Formed)
 readEach zero s = taken [] s
 readEach (suc n) s = bind (readElement s) λ e r. bind (readEach n r) λ es t. taken (e ∷ es) t
 
 -- "m from 1 to 255, m elements"
-unfoldable pub readElements : ℕ → ℕ → Bool → List ℕ → Step (List Element)
+unfoldable pub readElements : ℕ → ℕ → Bool → List ℕ → Step (List Formed)
 readElements missing outside false s = taken [] s
 readElements missing outside true s = bind (readCount missing outside 1 255 s) readEach
 
@@ -143,26 +147,34 @@ abbrev pub ifCodes : Codes → ℕ → ℕ → ℕ
 ifCodes noCodes second first = first
 ifCodes (least to greatest) second first = second
 
--- a body: the command, and the bytes behind it that are ignored
-unfoldable pub readBody : ℕ → Layout → List ℕ → Step Command
+-- a command as it was read: "Everything above it passes on how many were long."
+pub record Counted : Type 0 where
+  pub command : Command
+  pub long : ℕ
+
+abbrev pub counted : Command → ℕ → Counted
+counted c long = record { command = c; long = long }
+
+-- a body: the command, how many of its elements were long, and the bytes behind it that are ignored
+unfoldable pub readBody : ℕ → Layout → List ℕ → Step Counted
 readBody code l s =
     bind (readIdm (l .idm) s) λ idm s₁.
     bind (readSelector (l .selector) s₁) λ selector s₂.
     bind (readCodes 9 10 (l .first) s₂) λ first s₃.
     bind (readCodes 11 12 (l .second) s₃) λ second s₄.
-    bind (readElements (ifCodes (l .first) 11 9) (ifCodes (l .first) 12 10) (l .elements) s₄) λ elements s₅.
-    bind (readData (l .blockData) (length elements) s₅) λ blockData s₆.
+    bind (readElements (ifCodes (l .first) 11 9) (ifCodes (l .first) 12 10) (l .elements) s₄) λ blocks s₅.
+    bind (readData (l .blockData) (length blocks) s₅) λ blockData s₆.
     bind (readEnding (l .ending) (l .behind) s₆) λ values s₇.
     bind (readPackage (l .behind) s₇) λ issuePackage s₈.
-    taken (commandOf code idm selector first second elements blockData values issuePackage) s₈
+    taken (counted (commandOf code idm selector first second (map (λ b. b .element) blocks) blockData values issuePackage) (longCount blocks)) s₈
 
--- "A refusal gives its number and, from 4 up, the command code"
+-- What a frame or a payload gives: its command, and how many of the elements were long. "A refusal gives its number and, from 4 up, the command code"
 pub data Answer : Type 0 where
-  gives : Command → Answer
+  gives : Command → ℕ → Answer
   refused : ℕ → Option ℕ → Answer
 
-abbrev pub answerOf : ℕ → Step Command → Answer
-answerOf code (taken c rest) = gives c
+abbrev pub answerOf : ℕ → Step Counted → Answer
+answerOf code (taken r rest) = gives (r .command) (r .long)
 answerOf code (refuse n) = refused n (some code)
 
 -- 4: secure code in a plain frame; 5: code unknown here

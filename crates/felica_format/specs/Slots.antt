@@ -29,6 +29,8 @@ PollingFrame s c =
     × (s ≡ 0x06 ∷ 0x00 ∷ high ∷ low ∷ request ∷ slots ∷ []) × (request ≤ 2) × (isOneOf timeSlotValues slots ≡ true)
     × (c ≡ pollingOf high low request slots)
 
--- "The same Polling frames pass": of all frames with code 00, of bytes or any other numbers, those that give a command are exactly these.
+-- "The same Polling frames pass": of all frames with code 00, of bytes or any other numbers, those that give a command are exactly these. None of
+-- a Polling's elements is long: it has none.
 abbrev pub PollingFramesAre : Type 0
-PollingFramesAre = (n : ℕ) (body : List ℕ) (c : Command) → (readFrame (n ∷ 0x00 ∷ body) ≡ gives c) ↔ PollingFrame (n ∷ 0x00 ∷ body) c
+PollingFramesAre =
+    (n : ℕ) (body : List ℕ) (c : Command) (long : ℕ) → (readFrame (n ∷ 0x00 ∷ body) ≡ gives c long) ↔ (PollingFrame (n ∷ 0x00 ∷ body) c × (long ≡ 0))

@@ -45,13 +45,22 @@ unfoldable pub longBytes : Element → List ℕ
 longBytes e = headOf e ∷ wordBytes (e .number)
 
 -- "each block number below 256 short or long, every other long"
+abbrev pub isShort : Bool → Element → Bool
+isShort long e = not long and ltb (e .number) 256
+
 unfoldable pub elementBytes : Bool → Element → List ℕ
-elementBytes long e = cond (not long and ltb (e .number) 256) (shortBytes e) (longBytes e)
+elementBytes long e = cond (isShort long e) (shortBytes e) (longBytes e)
 
 unfoldable pub eachBytes : Forms → List Element → List ℕ
 eachBytes forms [] = []
 eachBytes [] (e ∷ es) = elementBytes false e ++ eachBytes [] es
 eachBytes (long ∷ forms) (e ∷ es) = elementBytes long e ++ eachBytes forms es
+
+-- how many elements a choice makes long, those numbered from 256 up among them
+unfoldable pub longIn : Forms → List Element → ℕ
+longIn forms [] = 0
+longIn [] (e ∷ es) = cond (isShort false e) 0 1 + longIn [] es
+longIn (long ∷ forms) (e ∷ es) = cond (isShort long e) 0 1 + longIn forms es
 
 -- the count m and m elements
 unfoldable pub elementsBytes : Bool → Forms → List Element → List ℕ

@@ -31,15 +31,15 @@ module _ (s : List ℕ) (p : Parsed) {kind : FelicaStandardCommand} {l : Lists} 
       subst (λ (x : Lists). CodesInside s (x .«first_codes») × CodesInside s (x .«second_codes»)) (sym is) (q .0, q .1)
 
   pub command-says : {code : ℕ} → code ≡ fieldsOf kind .code
-      → Says (meaning s p) (acceptedText code (codesAt s (l .«first_codes») ++ codesAt s (l .«second_codes»)) (l .«block_list» .count)) true (l .«block_list» .count)
+      → Says (meaning s p) (acceptedText code (codesAt s (l .«first_codes») ++ codesAt s (l .«second_codes»)) (l .«block_list» .count) (p .long)) true (l .«block_list» .count)
   command-says {code} same =
       let q = subst (λ (a : Answer). Inside s (answerPlaces a)) e inside in
       let counted = values-counted s (fieldsOf kind .elements) (λ x. x .number) (q .2) in
-      subst (λ (a : Answer). Says (answerIs s (p .idm) (p .challenge) a) (acceptedText code (codesAt s (l .«first_codes») ++ codesAt s (l .«second_codes»)) (l .«block_list» .count)) true (l .«block_list» .count)) (sym e)
+      subst (λ (a : Answer). Says (answerIs s (p .idm) (p .challenge) (p .long) a) (acceptedText code (codesAt s (l .«first_codes») ++ codesAt s (l .«second_codes»)) (l .«block_list» .count) (p .long)) true (l .«block_list» .count)) (sym e)
       (rw (is, same, counted) (refl, refl, refl))
 
 pub refused-says : (s : List ℕ) (p : Parsed) {why : Refusal} → p .answer ≡ AnswerRefused why → Says (meaning s p) (refusalText why) false 0
-refused-says s p {why} e = subst (λ (a : Answer). Says (answerIs s (p .idm) (p .challenge) a) (refusalText why) false 0) (sym e) (same why)
+refused-says s p {why} e = subst (λ (a : Answer). Says (answerIs s (p .idm) (p .challenge) (p .long) a) (refusalText why) false 0) (sym e) (same why)
   where
     same : (why : Refusal) → Says (refusalIs why) (refusalText why) false 0
     same (Number n) = (refl, refl, refl)

@@ -39,14 +39,14 @@ markField (code ∷ codes) = marksText (code ∷ codes)
 abbrev pub listedCodes : Command → List ℕ
 listedCodes c = c .first ++ c .second
 
--- "OK, code in two digits, number of listed codes, number of blocks", and the marks
-unfoldable pub acceptedText : ℕ → List ℕ → ℕ → List ℕ
-acceptedText code codes blocks =
-    text "OK " ++ (byteText code ++ (text " " ++ (decimalText (length codes) ++ (text " " ++ (decimalText blocks ++ (text " " ++ markField codes))))))
+-- "OK, code in two digits, number of listed codes, number of blocks", "the count of long elements behind the block count", and the marks
+unfoldable pub acceptedText : ℕ → List ℕ → ℕ → ℕ → List ℕ
+acceptedText code codes blocks long =
+    text "OK " ++ (byteText code ++ (text " " ++ (decimalText (length codes) ++ (text " " ++ (decimalText blocks ++ (text " " ++ (decimalText long ++ (text " " ++ markField codes))))))))
 
 -- "A refused line has ordinal, NO, number, code or `--`."
 abbrev pub frameText : Reading → List ℕ
-frameText (gives c) = acceptedText (c .code) (listedCodes c) (length (c .numbers))
+frameText (gives c long) = acceptedText (c .code) (listedCodes c) (length (c .numbers)) long
 frameText (refused n code) = refusedText n code
 
 -- "the record's ordinal from 1", then what its frame gives, and the line's end, whose code is 10
@@ -55,9 +55,9 @@ recordLine ordinal reading = decimalText ordinal ++ (text " " ++ (frameText read
 
 -- what a frame counts for in the totals: whether it is accepted, and how many blocks it has then
 abbrev pub isAccepted : Reading → Bool
-isAccepted (gives c) = true
+isAccepted (gives c long) = true
 isAccepted (refused n code) = false
 
 abbrev pub blocksIn : Reading → ℕ
-blocksIn (gives c) = length (c .numbers)
+blocksIn (gives c long) = length (c .numbers)
 blocksIn (refused n code) = 0

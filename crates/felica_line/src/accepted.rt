@@ -1,4 +1,4 @@
-// What an accepted frame is listed by: its code, how many codes and blocks it has, and a mark for each code.
+// What an accepted frame is listed by: its code, how many codes and blocks it has and how many of these were long, and a mark for each code.
 ghost use mathlib.Core.Path.{_≡_};
 ghost use mathlib.Core.List.{[], _∷_, _++_};
 ghost use Rattle.felica_command.specs.Meaning.{codesAt};
@@ -21,9 +21,10 @@ pub(crate) fn put_accepted(
     first: Part,
     second: Part,
     blocks: usize,
+    long: u8,
 ) -> usize
     requires { ⌜ CodesInside (now payload) first × CodesInside (now payload) second ⌝ }
-    ensures { λ r. ⌜ buffer (now (out .exit)) r ≡ put (buffer (now (out .entry)) at) (acceptedText code (codesAt (now (payload .entry)) first ++ codesAt (now (payload .entry)) second) blocks) ⌝ }
+    ensures { λ r. ⌜ buffer (now (out .exit)) r ≡ put (buffer (now (out .entry)) at) (acceptedText code (codesAt (now (payload .entry)) first ++ codesAt (now (payload .entry)) second) blocks long) ⌝ }
 {
     let code_at = put_bytes(out, at, b"OK ");
     let code_end = put_hex_byte(out, code_at, code);
@@ -31,7 +32,9 @@ pub(crate) fn put_accepted(
     let codes_end = put_decimal(out, codes_at, first.count + second.count);
     let blocks_at = put_byte(out, codes_end, b' ');
     let blocks_end = put_decimal(out, blocks_at, blocks);
-    let marks_at = put_byte(out, blocks_end, b' ');
+    let long_at = put_byte(out, blocks_end, b' ');
+    let long_end = put_decimal(out, long_at, long as usize);
+    let marks_at = put_byte(out, long_end, b' ');
     put_mark_field(out, marks_at, payload, first, second)
 }
 

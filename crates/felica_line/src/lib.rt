@@ -57,6 +57,7 @@ fn put_result(out: &mut [u8], at: usize, payload: &[u8], parsed: Parsed) -> Fram
                     lists.first_codes,
                     lists.second_codes,
                     blocks,
+                    parsed.long,
                 ),
                 accepted: true,
                 blocks: blocks,

@@ -48,25 +48,25 @@ refusal-told : (why : Refusal) (b : Buffers) → outcome (refusalIs why) b ≡ l
 refusal-told (Number n) b = refl
 refusal-told (OfCommand n code) b = refl
 
-abbrev parsed : Answer → List ℕ → List ℕ → Parsed
-parsed answer idm challenge = record { answer = answer; idm = idm; challenge = challenge }
+abbrev parsed : Answer → List ℕ → List ℕ → ℕ → Parsed
+parsed answer idm challenge long = record { answer = answer; idm = idm; challenge = challenge; long = long }
 
-answer-told : (s : List ℕ) (at : ℕ) (a : Answer) (idm challenge : List ℕ) (b : Buffers)
-    → placesOf (parsed a idm challenge) ≡ readPlaces at s (meaning s (parsed a idm challenge)) → Canonical (parsed a idm challenge)
-    → Inside s (placesOf (parsed a idm challenge)) → Told s at (meaning s (parsed a idm challenge)) b (give s (parsed a idm challenge) b)
-answer-told s at (AnswerRefused why) idm challenge b placed canonical inside = (refusal-told why b, placed, canonical, inside)
-answer-told s at (AnswerCommand kind) idm challenge b placed canonical inside = go (fits (listsAt s (listsIn (fieldsOf kind))) b) refl
+answer-told : (s : List ℕ) (at : ℕ) (a : Answer) (idm challenge : List ℕ) (long : ℕ) (b : Buffers)
+    → placesOf (parsed a idm challenge long) ≡ readPlaces at s (meaning s (parsed a idm challenge long)) → Canonical (parsed a idm challenge long)
+    → Inside s (placesOf (parsed a idm challenge long)) → Told s at (meaning s (parsed a idm challenge long)) b (give s (parsed a idm challenge long) b)
+answer-told s at (AnswerRefused why) idm challenge long b placed canonical inside = (refusal-told why b, placed, canonical, inside)
+answer-told s at (AnswerCommand kind) idm challenge long b placed canonical inside = go (fits (listsAt s (listsIn (fieldsOf kind))) b) refl
   where
     p : Parsed
-    p = parsed (AnswerCommand kind) idm challenge
+    p = parsed (AnswerCommand kind) idm challenge long
 
     go : (room : Bool) → fits (listsAt s (listsIn (fieldsOf kind))) b ≡ room → Told s at (meaning s p) b (give s p b)
     go true e = rw e (refl, placed, canonical, inside)
-    go false e = rw e (refl, refl, (refl, refl), none-inside s)
+    go false e = rw e (refl, refl, (refl, refl, refl), none-inside s)
 
 pub given-told : (s : List ℕ) (at : ℕ) (reading : Reading) (p r : Parsed) (b after : Buffers) → meaning s p ≡ reading → placesOf p ≡ readPlaces at s reading
     → Canonical p → Inside s (placesOf p) → given r after ≡ give s p b → Told s at reading b (given r after)
 given-told s at reading p r b after means placed canonical inside e =
     let placed′ = placed ∙ ap (readPlaces at s) (sym means) in
-    let told = answer-told s at (p .answer) (p .idm) (p .challenge) b placed′ canonical inside in
+    let told = answer-told s at (p .answer) (p .idm) (p .challenge) (p .long) b placed′ canonical inside in
     subst (λ (g : Given). Told s at reading b g) (sym e) (subst (λ (x : Reading). Told s at x b (give s p b)) means told)

@@ -10,7 +10,7 @@ use mathlib.Core.List.{List, [], _∷_, _++_}
 use lib.ListN.{length, set, drop, length-drop}
 use lib.Seq.{sets, sets-eq}
 use Rattle.felica_format.specs.Basic.{taken, refuse, bind}
-use Rattle.felica_format.specs.Command.{Element}
+use Rattle.felica_format.specs.Command.{Formed}
 use Rattle.felica_format.specs.Read.{readElement, readEach}
 use Rattle.felica_format.proofs.Steps.{none-taken}
 use Rattle.felica_command.specs.Meaning.{part, elementsAt}
@@ -35,8 +35,8 @@ none-refused s at n k g e inside r =
     let stops : readEach n (drop at s) ≡ refuse g = rw (e, r) in
     none-taken (sym stops ∙ whole .1)
 
-pub elements-next : (s : List ℕ) (at next n k : ℕ) (e : Element) → n ≡ suc k → readElement (drop at s) ≡ taken e (drop next s)
-    → next + elementsSize k (drop next s) ≤ length s → elementsAt s (part at n) ≡ e ∷ elementsAt s (part next k)
+pub elements-next : (s : List ℕ) (at next n k : ℕ) (e : Formed) → n ≡ suc k → readElement (drop at s) ≡ taken e (drop next s)
+    → next + elementsSize k (drop next s) ≤ length s → elementsAt s (part at n) ≡ e .element ∷ elementsAt s (part next k)
 unfolding readEach bind
 elements-next s at next n k e p r inside =
     let whole = each-whole k (drop next s) (rw length-drop (omega arith)) in

@@ -19,9 +19,9 @@ use Rattle.felica_lists.specs.Lists.{listsOf, fits, Outcome, outcome, li
 use Rattle.felica_lists.specs.Rules.{RefusedUntouched, TooSmall, TwentyOneExactly, FrameTwentyOne, PayloadTwentyOne, SecureTwentyOne, OneListAccount, ParsersResult}
 
 pub refused-untouched : RefusedUntouched
-refused-untouched (gives c) b n code h = go (fits (listsOf c) b) h
+refused-untouched (gives c long) b n code h = go (fits (listsOf c) b) h
   where
-    go : (room : Bool) → listedIf room c b .answer ≡ refused n code → listedIf room c b .buffers ≡ b
+    go : (room : Bool) → listedIf room c long b .answer ≡ refused n code → listedIf room c long b .buffers ≡ b
     go true h = absurd (not-given (sym h))
     go false h = refl
 refused-untouched (refused m k) b n code h = refl
@@ -31,18 +31,18 @@ abbrev Below : Reading → Type 0
 Below reading = (n : ℕ) (code : Option ℕ) → reading ≡ refused n code → n ≤ 20
 
 twenty-one : (reading : Reading) → Below reading → TwentyOneExactly reading
-twenty-one (gives c) below b code = (there (fits (listsOf c) b) refl, back)
+twenty-one (gives c long) below b code = (there (fits (listsOf c) b) refl, back)
   where
-    there : (room : Bool) → fits (listsOf c) b ≡ room → listed (gives c) b .answer ≡ refused 21 code → TooSmall (gives c) b code
-    there true e h = absurd (not-given (sym h ∙ ap (λ (q : Bool). listedIf q c b .answer) e))
-    there false e h = (c, refl, e, cc)
+    there : (room : Bool) → fits (listsOf c) b ≡ room → listed (gives c long) b .answer ≡ refused 21 code → TooSmall (gives c long) b code
+    there true e h = absurd (not-given (sym h ∙ ap (λ (q : Bool). listedIf q c long b .answer) e))
+    there false e h = (c, long, refl, e, cc)
 
-    back : TooSmall (gives c) b code → listed (gives c) b .answer ≡ refused 21 code
-    back (d, is, short, carried) =
+    back : TooSmall (gives c long) b code → listed (gives c long) b .answer ≡ refused 21 code
+    back (d, n, is, short, carried) =
         let same : c ≡ d = cc in
         let short′ = ap (λ (x : Command). fits (listsOf x) b) same ∙ short in
         rw short′ (ap (λ (k : Option ℕ). refused 21 k) (ap (λ (x : Command). some (x .code)) same ∙ sym carried))
-twenty-one (refused m k) below b code = (λ h. absurd (let z : m ≡ 21 = cc in omega (arith, below m k refl)), λ (d, is, short, carried). absurd (not-given is))
+twenty-one (refused m k) below b code = (λ h. absurd (let z : m ≡ 21 = cc in omega (arith, below m k refl)), λ (d, long, is, short, carried). absurd (not-given is))
 
 pub frame-twenty-one : FrameTwentyOne
 frame-twenty-one s = twenty-one (readFrame s) λ n code h. ⊎-elim (λ p. omega (arith, p .1)) (λ p. p .1) (frame-refusals s n code h)
@@ -66,11 +66,11 @@ one-list-account s at reading b r t a e (m, p, c, i) (m′, p′, c′, i′) =
 
 pub parsers-result : ParsersResult
 parsers-result s at (refused n code) b p r a account (m, q, c, i) = inl (one-result s at (refused n code) r p (ap (λ (o : Outcome). o .answer) m) q c account)
-parsers-result s at (gives d) b p r a account (m, q, c, i) = go (fits (listsOf d) b) refl m
+parsers-result s at (gives d long) b p r a account (m, q, c, i) = go (fits (listsOf d) b) refl m
   where
-    go : (room : Bool) → fits (listsOf d) b ≡ room → outcome (meaning s r) a ≡ listedIf room d b
-        → (r ≡ p) ⊎ ((code : Option ℕ) × TooSmall (gives d) b code × (r ≡ refusal 21 code))
-    go true e m = inl (one-result s at (gives d) r p (ap (λ (o : Outcome). o .answer) m) q c account)
+    go : (room : Bool) → fits (listsOf d) b ≡ room → outcome (meaning s r) a ≡ listedIf room d long b
+        → (r ≡ p) ⊎ ((code : Option ℕ) × TooSmall (gives d long) b code × (r ≡ refusal 21 code))
+    go true e m = inl (one-result s at (gives d long) r p (ap (λ (o : Outcome). o .answer) m) q c account)
     go false e m =
-        let same = one-result s at (refused 21 (some (d .code))) r (refusal 21 (some (d .code))) (ap (λ (o : Outcome). o .answer) m) q c (refl, refl, (refl, refl)) in
-        inr (some (d .code), (d, refl, e, refl), same)
+        let same = one-result s at (refused 21 (some (d .code))) r (refusal 21 (some (d .code))) (ap (λ (o : Outcome). o .answer) m) q c (refl, refl, (refl, refl, refl)) in
+        inr (some (d .code), (d, long, refl, e, refl), same)

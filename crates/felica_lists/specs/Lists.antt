@@ -50,11 +50,11 @@ abbrev pub outcome : Reading → Buffers → Outcome
 outcome answer b = record { answer = answer; buffers = b }
 
 -- "It parses first, then gives 21 exactly when a buffer is shorter than its list."
-abbrev pub listedIf : Bool → Command → Buffers → Outcome
-listedIf true c b = outcome (gives c) (fronts (listsOf c) b)
-listedIf false c b = outcome (refused 21 (some (c .code))) b
+abbrev pub listedIf : Bool → Command → ℕ → Buffers → Outcome
+listedIf true c long b = outcome (gives c long) (fronts (listsOf c) b)
+listedIf false c long b = outcome (refused 21 (some (c .code))) b
 
 -- the outcome for what the bytes give and the buffers before the call
 abbrev pub listed : Reading → Buffers → Outcome
-listed (gives c) b = listedIf (fits (listsOf c) b) c b
+listed (gives c long) b = listedIf (fits (listsOf c) b) c long b
 listed (refused n code) b = outcome (refused n code) b

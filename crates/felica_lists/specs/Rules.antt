@@ -19,7 +19,7 @@ RefusedUntouched = (reading : Reading) (b : Buffers) (n : ℕ) (code : Option �
 
 -- the bytes give a command with this code, and a buffer is shorter than its list
 abbrev pub TooSmall : Reading → Buffers → Option ℕ → Type 0
-TooSmall reading b code = (c : Command) × (reading ≡ gives c) × (fits (listsOf c) b ≡ false) × (code ≡ some (c .code))
+TooSmall reading b code = (c : Command) × (long : ℕ) × (reading ≡ gives c long) × (fits (listsOf c) b ≡ false) × (code ≡ some (c .code))
 
 -- "21 exactly when a buffer is shorter than its list"
 abbrev pub TwentyOneExactly : Reading → Type 0

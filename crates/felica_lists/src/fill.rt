@@ -74,7 +74,7 @@ fn fill_blocks(payload: &[u8], list: Part, numbers: &mut [u16], places: &mut [u8
         let cursor = Cursor { at: at };
         let taken = cursor.take_element(payload);
         // The parser has taken these elements, so that none is refused here.
-        let ElementTaken::Element(element, next) = taken else {
+        let ElementTaken::Element(element, _, next) = taken else {
             return;
         };
         numbers[i] = element.block_number_or_key_version.0;

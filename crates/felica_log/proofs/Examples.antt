@@ -21,4 +21,4 @@ lining = tt
 
 pub samples-listed : AllSamplesListed samples
 unfolding samples reading lining
-samples-listed = (refl, (refl, (refl, (refl, (refl, tt)))))
+samples-listed = (refl, (refl, (refl, (refl, (refl, (refl, tt))))))

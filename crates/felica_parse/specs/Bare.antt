@@ -6,4 +6,4 @@ use Rattle.felica_command.specs.declared.command.Answer.the-variants.{Command a
 use Rattle.felica_command.specs.declared.command.Parsed.{Parsed}
 
 abbrev pub withoutIdm : FelicaStandardCommand → Parsed
-withoutIdm kind = record { answer = AnswerCommand kind; idm = zeros 8; challenge = zeros 16 }
+withoutIdm kind = record { answer = AnswerCommand kind; idm = zeros 8; challenge = zeros 16; long = 0 }

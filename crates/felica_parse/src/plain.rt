@@ -12,6 +12,7 @@ use felica_command::command::FelicaStandardCommand;
 use felica_command::command::Parsed;
 use felica_command::types::ContainerProperty;
 use felica_command::types::NodeCode;
+use felica_cursor::answers::BlocksTaken;
 use felica_cursor::answers::ByteTaken;
 use felica_cursor::answers::ListTaken;
 use felica_cursor::answers::Moved;
@@ -46,6 +47,7 @@ fn without_idm(kind: FelicaStandardCommand) -> Parsed
         answer: Answer::Command(kind),
         idm: [0u8; 8],
         challenge: [0u8; 16],
+        long: 0,
     }
 }
 
@@ -89,6 +91,7 @@ pub(crate) fn parse_code_list(payload: &[u8], command_code: u8) -> Parsed
         answer: Answer::Command(kind),
         idm: idm,
         challenge: [0u8; 16],
+        long: 0,
     }
 }
 
@@ -113,6 +116,7 @@ pub(crate) fn parse_idm_alone(payload: &[u8], command_code: u8) -> Parsed
         answer: Answer::Command(kind),
         idm: idm,
         challenge: [0u8; 16],
+        long: 0,
     }
 }
 
@@ -130,7 +134,7 @@ pub(crate) fn parse_read_without_encryption(payload: &[u8]) -> Parsed
         return Parsed::refused(listed.ground(), READ_WITHOUT_ENCRYPTION_COMMAND_CODE);
     };
     let elements = behind_codes.take_second_blocks(payload);
-    let ListTaken::List(block_list, behind_blocks) = elements else {
+    let BlocksTaken::Blocks(block_list, long, behind_blocks) = elements else {
         return Parsed::refused(elements.ground(), READ_WITHOUT_ENCRYPTION_COMMAND_CODE);
     };
     let end = behind_blocks.take_end(payload);
@@ -145,6 +149,7 @@ pub(crate) fn parse_read_without_encryption(payload: &[u8]) -> Parsed
         }),
         idm: idm,
         challenge: [0u8; 16],
+        long: long,
     }
 }
 
@@ -162,7 +167,7 @@ pub(crate) fn parse_write_without_encryption(payload: &[u8]) -> Parsed
         return Parsed::refused(listed.ground(), WRITE_WITHOUT_ENCRYPTION_COMMAND_CODE);
     };
     let elements = behind_codes.take_second_blocks(payload);
-    let ListTaken::List(block_list, behind_blocks) = elements else {
+    let BlocksTaken::Blocks(block_list, long, behind_blocks) = elements else {
         return Parsed::refused(elements.ground(), WRITE_WITHOUT_ENCRYPTION_COMMAND_CODE);
     };
     let bytes = behind_blocks.take_data(payload, block_list.count);
@@ -182,6 +187,7 @@ pub(crate) fn parse_write_without_encryption(payload: &[u8]) -> Parsed
         }),
         idm: idm,
         challenge: [0u8; 16],
+        long: long,
     }
 }
 
@@ -206,6 +212,7 @@ pub(crate) fn parse_idm_and_word(payload: &[u8], command_code: u8) -> Parsed
         answer: Answer::Command(kind),
         idm: idm,
         challenge: [0u8; 16],
+        long: 0,
     }
 }
 
@@ -243,6 +250,7 @@ pub(crate) fn parse_authentication1(payload: &[u8]) -> Parsed
         }),
         idm: idm,
         challenge: challenge,
+        long: 0,
     }
 }
 
@@ -266,6 +274,7 @@ pub(crate) fn parse_authentication2(payload: &[u8]) -> Parsed
         answer: Answer::Command(FelicaStandardCommand::Authentication2),
         idm: idm,
         challenge: challenge,
+        long: 0,
     }
 }
 
@@ -290,6 +299,7 @@ pub(crate) fn parse_request_code_list(payload: &[u8]) -> Parsed
         }),
         idm: idm,
         challenge: [0u8; 16],
+        long: 0,
     }
 }
 
@@ -314,6 +324,7 @@ pub(crate) fn parse_set_parameter(payload: &[u8]) -> Parsed
         }),
         idm: idm,
         challenge: [0u8; 16],
+        long: 0,
     }
 }
 
@@ -338,6 +349,7 @@ pub(crate) fn parse_idm_and_reserved(payload: &[u8], command_code: u8) -> Parsed
         answer: Answer::Command(kind),
         idm: idm,
         challenge: [0u8; 16],
+        long: 0,
     }
 }
 
@@ -370,6 +382,7 @@ pub(crate) fn parse_get_node_property(payload: &[u8]) -> Parsed
         }),
         idm: idm,
         challenge: [0u8; 16],
+        long: 0,
     }
 }
 
@@ -419,6 +432,7 @@ pub(crate) fn parse_authentication1_v2(payload: &[u8]) -> Parsed
         }),
         idm: idm,
         challenge: challenge,
+        long: 0,
     }
 }
 
@@ -442,6 +456,7 @@ pub(crate) fn parse_authentication2_v2(payload: &[u8]) -> Parsed
         answer: Answer::Command(FelicaStandardCommand::Authentication2V2),
         idm: idm,
         challenge: challenge,
+        long: 0,
     }
 }
 

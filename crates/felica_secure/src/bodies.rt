@@ -7,6 +7,7 @@ use crate::kinds::write_kind;
 use felica_command::command::Answer;
 use felica_command::command::FelicaStandardCommand;
 use felica_command::command::Parsed;
+use felica_cursor::answers::BlocksTaken;
 use felica_cursor::answers::ListTaken;
 use felica_cursor::answers::Moved;
 use felica_cursor::answers::WordTaken;
@@ -20,7 +21,7 @@ pub(crate) fn parse_read(payload: &[u8], command_code: u8) -> Parsed
 {
     let start = Cursor { at: 0 };
     let elements = start.take_first_blocks(payload);
-    let ListTaken::List(block_list, _) = elements else {
+    let BlocksTaken::Blocks(block_list, long, _) = elements else {
         return Parsed::refused(elements.ground(), command_code);
     };
     let kind = read_kind(command_code, block_list);
@@ -28,6 +29,7 @@ pub(crate) fn parse_read(payload: &[u8], command_code: u8) -> Parsed
         answer: Answer::Command(kind),
         idm: [0u8; 8],
         challenge: [0u8; 16],
+        long: long,
     }
 }
 
@@ -38,7 +40,7 @@ pub(crate) fn parse_write(payload: &[u8], command_code: u8) -> Parsed
 {
     let start = Cursor { at: 0 };
     let elements = start.take_first_blocks(payload);
-    let ListTaken::List(block_list, behind_blocks) = elements else {
+    let BlocksTaken::Blocks(block_list, long, behind_blocks) = elements else {
         return Parsed::refused(elements.ground(), command_code);
     };
     let bytes = behind_blocks.take_data(payload, block_list.count);
@@ -50,6 +52,7 @@ pub(crate) fn parse_write(payload: &[u8], command_code: u8) -> Parsed
         answer: Answer::Command(kind),
         idm: [0u8; 8],
         challenge: [0u8; 16],
+        long: long,
     }
 }
 
@@ -68,6 +71,7 @@ pub(crate) fn parse_register_issue_id(payload: &[u8]) -> Parsed
         answer: Answer::Command(FelicaStandardCommand::RegisterIssueId { package: package }),
         idm: [0u8; 8],
         challenge: challenge,
+        long: 0,
     }
 }
 
@@ -87,6 +91,7 @@ pub(crate) fn parse_register(payload: &[u8], command_code: u8) -> Parsed
         answer: Answer::Command(kind),
         idm: [0u8; 8],
         challenge: [0u8; 16],
+        long: 0,
     }
 }
 
@@ -102,5 +107,6 @@ pub(crate) fn parse_change_system_block(payload: &[u8]) -> Parsed
         answer: Answer::Command(FelicaStandardCommand::ChangeSystemBlock),
         idm: [0u8; 8],
         challenge: [0u8; 16],
+        long: 0,
     }
 }

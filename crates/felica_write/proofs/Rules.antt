@@ -11,24 +11,31 @@ use lib.ListN.{length, take, drop}
 use lib.Seq.{take-append-seam, drop-append-seam}
 use lib.Dec.{ltb}
 use borrow.Author.Tests.{ltb-true, ltb-false, lt-ltb, le-ltb}
-use Rattle.felica_format.specs.Basic.{_and_}
+use Rattle.felica_format.specs.Basic.{_and_, Bytes}
 use Rattle.felica_format.specs.Command.{Command}
 use Rattle.felica_format.specs.Layout.{layoutOf, layoutIn, has, plainRows}
-use Rattle.felica_format.specs.Read.{gives, readFrame, readSecure}
+use Rattle.felica_format.specs.Read.{gives}
 use Rattle.felica_format.specs.Write.{frameOf, secureOf}
 use Rattle.felica_format.specs.Writable.{idmOk, selectorOk, codesOk, sameLength, bodyOk, writable, written}
 use Rattle.felica_format.specs.Demand3.{FrameGives, PayloadGives, HasFrame, HasPayload}
 use Rattle.felica_format.proofs.Demand3.{frames-are-choices, payloads-are-choices, short-frame-accepted, short-payload-accepted, other-frames-longer}
 use Rattle.felica_format.proofs.Demand3.{other-payloads-longer, short-frame-written, short-payload-written, unwritable-exactly, frame-read-back}
-use Rattle.felica_format.proofs.Demand3.{payload-read-back, two-frames, two-payloads}
+use Rattle.felica_format.proofs.Demand3.{payload-read-back, two-frames, two-payloads, frame-long-counted, payload-long-counted}
+use Rattle.felica_format.proofs.Steps.{not-given}
+use Rattle.felica_command.specs.Meaning as parser
+use Rattle.felica_command.specs.Meaning.{answerIs}
 use Rattle.felica_command.specs.declared.command.Refusal.the-variants.{Number, OfCommand}
+use Rattle.felica_command.specs.declared.command.Answer.{Answer as Parsing}
+use Rattle.felica_command.specs.declared.command.Answer.the-variants.{Command as AnswerCommand, Refused as AnswerRefused}
+use Rattle.felica_command.specs.declared.command.Parsed.{Parsed}
 use Rattle.felica_write.specs.declared.Written.{Written}
 use Rattle.felica_write.specs.declared.Written.the-variants.{Length, Refused}
 use Rattle.felica_write.specs.Writing.{wrote, refused, meaning, refusal, outcome, stored, store, writing}
-use Rattle.felica_write.specs.Rules.{WriterAccount, OneWriterAccount, RefusedUntouched}
+use Rattle.felica_write.specs.Rules.{WriterAccount, FrameParsed, PayloadParsed, FrameIs, PayloadIs, OneWriterAccount, RefusedUntouched}
 use Rattle.felica_write.specs.Rules.{TwentyOneExactly, TwentyTwoExactly, BehindKept, WrittenFrameRead, WrittenPayloadRead, ShortestFrame}
 use Rattle.felica_write.specs.Rules.{TwoRefusals, FrameTwentyOne, PayloadTwentyOne, UnwritableUnread}
 use Rattle.felica_write.specs.Rules.{ShortestPayload, FramesReadAreChoices, PayloadsReadAreChoices, TwoFramesRead, TwoPayloadsRead, NumberAlone}
+use Rattle.felica_write.specs.Rules.{FrameLongTold, PayloadLongTold}
 
 -- a result is settled by what it says
 meaning-one : (r t : Written) → meaning r ≡ meaning t → r ≡ t
@@ -148,11 +155,24 @@ twenty-two-exactly c b r a e = (
     there none q said = q
     there (some s) q said = absurd (short s (ltb (length b) (length s)) said)
 
+-- what the parser reads is what the bytes give, and the other way round
+frame-gives : (c : Command) (s : List ℕ) (p : Parsed) → Bytes s → FrameParsed s p → FrameIs s p c → FrameGives s c
+frame-gives c s p small parsed given = (small, given .0, sym (parsed .0) ∙ given .1)
+
+payload-gives : (c : Command) (code : ℕ) (s : List ℕ) (p : Parsed) → Bytes s → PayloadParsed code s p → PayloadIs s p c → PayloadGives code s c
+payload-gives c code s p small parsed given = (small, given .0, sym (parsed .0) ∙ given .1)
+
+frame-is : (c : Command) (s : List ℕ) (p : Parsed) → FrameParsed s p → FrameGives s c → FrameIs s p c
+frame-is c s p parsed gave = (gave .1, parsed .0 ∙ gave .2)
+
+payload-is : (c : Command) (code : ℕ) (s : List ℕ) (p : Parsed) → PayloadParsed code s p → PayloadGives code s c → PayloadIs s p c
+payload-is c code s p parsed gave = (gave .1, parsed .0 ∙ gave .2)
+
 pub unwritable-unread : UnwritableUnread
 unwritable-unread c b r a e said s p small =
     let neither = twenty-two-exactly c b r a e .0 said in (
-      λ parsed given. neither .0 (s, (small, sym (parsed .0) ∙ given)),
-      λ code parsed given. neither .1 (code, s, (small, sym (parsed .0) ∙ given)),
+      λ parsed given. neither .0 (s, frame-gives c s p small parsed given),
+      λ code parsed given. neither .1 (code, s, payload-gives c code s p small parsed given),
     )
 
 pub behind-kept : BehindKept
@@ -170,14 +190,14 @@ front c b n a h = rw (h .size, h .held) (take-append-seam (h .bytes) (drop (leng
 pub written-frame-read : WrittenFrameRead
 written-frame-read c b n a p plain e parsed =
     let h = stored-of c b n a e in
-    let back = frame-read-back c (h .bytes) plain (h .is) .1 .1 in
-    parsed .0 ∙ subst (λ (s : List ℕ). readFrame s ≡ gives c) (sym (front c b n a h)) back
+    let back = frame-read-back c (h .bytes) plain (h .is) .1 in
+    frame-is c (take n a) p parsed (subst (λ (s : List ℕ). FrameGives s c) (sym (front c b n a h)) back)
 
 pub written-payload-read : WrittenPayloadRead
 written-payload-read c b n a p secure e parsed =
     let h = stored-of c b n a e in
-    let back = payload-read-back c (h .bytes) secure (h .is) .1 in
-    parsed .0 ∙ subst (λ (s : List ℕ). readSecure (c .code) s ≡ gives c) (sym (front c b n a h)) back
+    let back = payload-read-back c (h .bytes) secure (h .is) in
+    payload-is c (c .code) (take n a) p parsed (subst (λ (s : List ℕ). PayloadGives (c .code) s c) (sym (front c b n a h)) back)
 
 -- with room for it, the writer writes the bytes of the definition
 written-whole : (c : Command) (s b : List ℕ) (r : Written) (a : List ℕ) → written c ≡ some s → length s ≤ length b → WriterAccount c b r a
@@ -189,35 +209,50 @@ written-whole c s b r a w room e =
 
 pub shortest-frame : ShortestFrame
 shortest-frame c s p b r a small parsed given room e =
-    let accepted : FrameGives s c = (small, sym (parsed .0) ∙ given) in
+    let accepted = frame-gives c s p small parsed given in
     let has : HasFrame c = (s, accepted) in
     let whole = written-whole c (frameOf [] c) b r a (short-frame-written c has) room e in
-    (whole .0, whole .1, λ q parsed′. parsed′ .0 ∙ short-frame-accepted c has .1, other-frames-longer c s accepted)
+    (whole .0, whole .1, λ q parsed′. frame-is c (frameOf [] c) q parsed′ (short-frame-accepted c has), other-frames-longer c s accepted)
 
 pub shortest-payload : ShortestPayload
 shortest-payload c code s p b r a small parsed given room e =
-    let accepted : PayloadGives code s c = (small, sym (parsed .0) ∙ given) in
+    let accepted = payload-gives c code s p small parsed given in
     let has : HasPayload c = (code, s, accepted) in
     let whole = written-whole c (secureOf [] c) b r a (short-payload-written c has) room e in
-    (whole .0, whole .1, λ q parsed′. parsed′ .0 ∙ short-payload-accepted c has .1, other-payloads-longer c code s accepted)
+    (whole .0, whole .1, λ q parsed′. payload-is c (c .code) (secureOf [] c) q parsed′ (short-payload-accepted c has), other-payloads-longer c code s accepted)
 
 pub frames-read-are-choices : FramesReadAreChoices
 frames-read-are-choices c has s p small parsed =
     let exactly = frames-are-choices c has s in
-    (λ given. exactly .0 (small, sym (parsed .0) ∙ given), λ choice. parsed .0 ∙ exactly .1 choice .1)
+    (λ given. exactly .0 (frame-gives c s p small parsed given), λ choice. frame-is c s p parsed (exactly .1 choice))
 
 pub payloads-read-are-choices : PayloadsReadAreChoices
 payloads-read-are-choices c has code s p small parsed =
     let exactly = payloads-are-choices c has code s in
-    (λ given. exactly .0 (small, sym (parsed .0) ∙ given), λ choice. parsed .0 ∙ exactly .1 choice .1)
+    (λ given. exactly .0 (payload-gives c code s p small parsed given), λ choice. payload-is c code s p parsed (exactly .1 choice))
 
 pub two-frames-read : TwoFramesRead
 two-frames-read c s t p q small small′ parsed given parsed′ given′ =
-    two-frames c s t (small, sym (parsed .0) ∙ given) (small′, sym (parsed′ .0) ∙ given′)
+    two-frames c s t (frame-gives c s p small parsed given) (frame-gives c t q small′ parsed′ given′)
 
 pub two-payloads-read : TwoPayloadsRead
 two-payloads-read c s t p q small small′ parsed given parsed′ given′ =
-    two-payloads c s t (small, sym (parsed .0) ∙ given) (small′, sym (parsed′ .0) ∙ given′)
+    two-payloads c s t (payload-gives c (c .code) s p small parsed given) (payload-gives c (c .code) t q small′ parsed′ given′)
+
+-- the count that a result tells is the count that goes with its command
+answer-long : (s idm challenge : List ℕ) (long n : ℕ) (c : Command) (a : Parsing) → answerIs s idm challenge long a ≡ gives c n → long ≡ n
+answer-long s idm challenge long n c (AnswerCommand k) e = cc
+answer-long s idm challenge long n c (AnswerRefused (Number m)) e = absurd (not-given e)
+answer-long s idm challenge long n c (AnswerRefused (OfCommand m k)) e = absurd (not-given e)
+
+long-told : (s : List ℕ) (p : Parsed) (c : Command) (n : ℕ) → parser.meaning s p ≡ gives c n → p .long ≡ n
+long-told s p c n e = answer-long s (p .idm) (p .challenge) (p .long) n c (p .answer) e
+
+pub frame-long-told : FrameLongTold
+frame-long-told c has forms p short parsed = long-told (drop 1 (frameOf forms c)) p c _ (parsed .0 ∙ frame-long-counted c has forms short)
+
+pub payload-long-told : PayloadLongTold
+payload-long-told c has forms tail p follows parsed = long-told (secureOf forms c ++ tail) p c _ (parsed .0 ∙ payload-long-counted c has forms tail follows)
 
 pub number-alone : NumberAlone
 unfolding writing written writable bodyOk idmOk selectorOk codesOk sameLength layoutOf layoutIn has plainRows _and_

@@ -9,10 +9,10 @@ use mathlib.Core.Option.{Option, some}
 use lib.ListN.{length, take, drop}
 use Rattle.felica_format.specs.declared.classes.Class.the-variants.{Plain, Secure}
 use Rattle.felica_format.specs.Basic.{Bytes, zeros}
-use Rattle.felica_format.specs.Command.{Command}
+use Rattle.felica_format.specs.Command.{Command, elementsOf}
 use Rattle.felica_format.specs.Layout.{classOf}
 use Rattle.felica_format.specs.Read.{gives, readFrame, readSecure}
-use Rattle.felica_format.specs.Write.{frameOf, secureOf}
+use Rattle.felica_format.specs.Write.{Forms, longIn, frameOf, secureOf}
 use Rattle.felica_format.specs.Writable.{written}
 use Rattle.felica_format.specs.Demand3.{HasFrame, HasPayload, FrameChoice, PayloadChoice, MayFollow, Around}
 use Rattle.felica_command.specs.Meaning as parser
@@ -33,12 +33,12 @@ FrameParsed s p = Account (drop 1 s) 1 (readFrame s) p
 abbrev pub PayloadParsed : ℕ → List ℕ → Parsed → Type 0
 PayloadParsed code s p = Account s 0 (readSecure code s) p
 
--- and p is the command c
+-- and p is the command c; how many of its elements were long is no part of the command
 abbrev pub FrameIs : List ℕ → Parsed → Command → Type 0
-FrameIs s p c = parser.meaning (drop 1 s) p ≡ gives c
+FrameIs s p c = (long : ℕ) × (parser.meaning (drop 1 s) p ≡ gives c long)
 
 abbrev pub PayloadIs : List ℕ → Parsed → Command → Type 0
-PayloadIs s p c = parser.meaning s p ≡ gives c
+PayloadIs s p c = (long : ℕ) × (parser.meaning s p ≡ gives c long)
 
 -- The writer's contract leaves nothing open: no two results meet it, and no two contents of the buffer.
 abbrev pub OneWriterAccount : Type 0
@@ -138,6 +138,17 @@ TwoPayloadsRead =
     → PayloadIs t q c
     → (before : List ℕ) × (after : List ℕ) × (u : List ℕ) × (v : List ℕ) × MayFollow (c .code) u × MayFollow (c .code) v
     × Around c before (after ++ u) s × Around c before (after ++ v) t
+
+-- "how many were long": of a choice of forms, the parser's result tells how many elements it makes long.
+abbrev pub FrameLongTold : Type 0
+FrameLongTold =
+    (c : Command) → HasFrame c → (forms : Forms) (p : Parsed) → length (frameOf forms c) ≤ 255 → FrameParsed (frameOf forms c) p
+    → p .long ≡ longIn forms (elementsOf c)
+
+abbrev pub PayloadLongTold : Type 0
+PayloadLongTold =
+    (c : Command) → HasPayload c → (forms : Forms) (tail : List ℕ) (p : Parsed) → MayFollow (c .code) tail
+    → PayloadParsed (c .code) (secureOf forms c ++ tail) p → p .long ≡ longIn forms (elementsOf c)
 
 -- A block number without a place and a mode is no command: 04 with one is 22. The elements of its three lists would be none if the shortest list counted.
 abbrev pub numberAlone : ℕ → Command

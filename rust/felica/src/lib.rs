@@ -1,9 +1,9 @@
 //! FeliCa Standard commands: the proved parser, list reader and writer of libfelica_c.a, as safe functions.
 //!
-//! The parser reads a frame, a payload, or the decrypted payload of a secure code, and gives the command or one
-//! numbered refusal. The list reader does the same and writes the command's lists to five lent buffers. The writer
-//! makes the shortest frame of a plain command and the shortest payload of a secure one. include/felica.h has the
-//! contracts, the table of what each command has, and the numbers of the refusals.
+//! The parser reads a frame, a payload, or the decrypted payload of a secure code, and gives the command, with how many
+//! of its elements were long, or one numbered refusal. The list reader does the same and writes the command's lists to
+//! five lent buffers. The writer makes the shortest frame of a plain command and the shortest payload of a secure one.
+//! include/felica.h has the contracts, the table of what each command has, and the numbers of the refusals.
 
 pub mod ffi;
 
@@ -45,6 +45,14 @@ pub struct Command {
     pub block_list: Part,
     pub data: Part,
     pub package: Part,
+}
+
+/// What a parse gives: the command, and how many elements of its block list were long. Two frames of one command may
+/// differ in that count.
+#[derive(Clone, Copy, Debug, Default, PartialEq, Eq)]
+pub struct Parsed {
+    pub command: Command,
+    pub long: u8,
 }
 
 /// The number of a ground, 1 to 22, and the command code, which 1 to 3 lack.
@@ -98,7 +106,7 @@ pub struct Handed<'a> {
 }
 
 /// Reads a frame: a length byte that is the frame's size, then the payload of a plain command.
-pub fn parse_frame(frame: &[u8]) -> Result<Command, Refusal> {
+pub fn parse_frame(frame: &[u8]) -> Result<Parsed, Refusal> {
     let mut lent = Lent::default();
     // SAFETY: the header asks for pointers that are not null and aligned, to memory that is there, holds values and is
     // at most PTRDIFF_MAX bytes: these are made of references, of which Rust asks the same. It asks that nobody writes
@@ -118,7 +126,7 @@ pub fn parse_frame(frame: &[u8]) -> Result<Command, Refusal> {
 }
 
 /// Reads the payload of a plain command, which begins with the code byte and may be longer than a frame can be.
-pub fn parse_payload(payload: &[u8]) -> Result<Command, Refusal> {
+pub fn parse_payload(payload: &[u8]) -> Result<Parsed, Refusal> {
     let mut lent = Lent::default();
     // SAFETY: as in `parse_frame`.
     let answer = unsafe {
@@ -135,7 +143,7 @@ pub fn parse_payload(payload: &[u8]) -> Result<Command, Refusal> {
 }
 
 /// Reads the decrypted payload of a secure code. It has no code byte.
-pub fn parse_secure_payload(command_code: u8, payload: &[u8]) -> Result<Command, Refusal> {
+pub fn parse_secure_payload(command_code: u8, payload: &[u8]) -> Result<Parsed, Refusal> {
     let mut lent = Lent::default();
     // SAFETY: as in `parse_frame`.
     let answer = unsafe {
@@ -154,7 +162,7 @@ pub fn parse_secure_payload(command_code: u8, payload: &[u8]) -> Result<Command,
 
 /// Does what `parse_frame` does, and writes the lists of the command to the front of the buffers. 21 comes exactly when
 /// a buffer is shorter than its list; a refusal leaves them as they were.
-pub fn list_frame(frame: &[u8], buffers: Buffers<'_>) -> Result<Command, Refusal> {
+pub fn list_frame(frame: &[u8], buffers: Buffers<'_>) -> Result<Parsed, Refusal> {
     let mut lent = Lent::default();
     // SAFETY: as in `parse_frame`. The buffers are written too: they are `&mut`, so that they overlap neither one
     // another nor anything else lent, and nobody else uses them during the call.
@@ -182,7 +190,7 @@ pub fn list_frame(frame: &[u8], buffers: Buffers<'_>) -> Result<Command, Refusal
 }
 
 /// The same of what `parse_payload` takes.
-pub fn list_payload(payload: &[u8], buffers: Buffers<'_>) -> Result<Command, Refusal> {
+pub fn list_payload(payload: &[u8], buffers: Buffers<'_>) -> Result<Parsed, Refusal> {
     let mut lent = Lent::default();
     // SAFETY: as in `list_frame`.
     let answer = unsafe {
@@ -209,7 +217,7 @@ pub fn list_payload(payload: &[u8], buffers: Buffers<'_>) -> Result<Command, Ref
 }
 
 /// The same of what `parse_secure_payload` takes.
-pub fn list_secure_payload(command_code: u8, payload: &[u8], buffers: Buffers<'_>) -> Result<Command, Refusal> {
+pub fn list_secure_payload(command_code: u8, payload: &[u8], buffers: Buffers<'_>) -> Result<Parsed, Refusal> {
     let mut lent = Lent::default();
     // SAFETY: as in `list_frame`.
     let answer = unsafe {
@@ -287,9 +295,9 @@ struct Lent {
 }
 
 impl Lent {
-    fn told(self, answer: FelicaAnswer) -> Result<Command, Refusal> {
+    fn told(self, answer: FelicaAnswer) -> Result<Parsed, Refusal> {
         match answer.refusal {
-            0 => Ok(self.command(answer.code)),
+            0 => Ok(Parsed { command: self.command(answer.code), long: answer.long_count }),
             number @ 1..=3 => Err(Refusal { number, code: None }),
             number => Err(Refusal { number, code: Some(answer.code) }),
         }

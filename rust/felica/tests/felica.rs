@@ -2,8 +2,8 @@
 //! and writer.
 
 use felica::{
-    Buffers, Command, Handed, Part, Refusal, list_frame, list_payload, list_secure_payload, parse_frame, parse_payload,
-    parse_secure_payload, write,
+    Buffers, Command, Handed, Parsed, Part, Refusal, list_frame, list_payload, list_secure_payload, parse_frame,
+    parse_payload, parse_secure_payload, write,
 };
 
 const I8: [u8; 8] = [1, 2, 3, 4, 5, 6, 7, 8];
@@ -20,6 +20,16 @@ fn refusal<T>(number: u8, code: u8) -> Result<T, Refusal> {
 
 fn part(start: usize, count: usize) -> Part {
     Part { start, count }
+}
+
+/// A command with so many long elements.
+fn with_long(long: u8, command: Command) -> Result<Parsed, Refusal> {
+    Ok(Parsed { command, long })
+}
+
+/// A command with no long element.
+fn short(command: Command) -> Result<Parsed, Refusal> {
+    with_long(0, command)
 }
 
 /// The five buffers of the list reader, filled with values that none of the lists here has.
@@ -57,15 +67,15 @@ impl Owned {
 #[test]
 fn polling_has_the_system_code_high_byte_first() {
     let expected = Command { code: 0x00, number: 0x1234, option: 0x01, choice: 0x0F, ..Command::default() };
-    assert_eq!(parse_frame(&bytes("06 00 12 34 01 0F")), Ok(expected));
+    assert_eq!(parse_frame(&bytes("06 00 12 34 01 0F")), short(expected));
 }
 
 #[test]
 fn a_read_has_its_lists_as_parts_of_the_payload() {
     let expected = Command { code: 0x06, idm: I8, first: part(10, 1), block_list: part(13, 1), ..Command::default() };
     let frame = bytes("10 06 I8 01 0B 10 01 80 00");
-    assert_eq!(parse_frame(&frame), Ok(expected));
-    assert_eq!(parse_payload(&frame[1..]), Ok(expected));
+    assert_eq!(parse_frame(&frame), short(expected));
+    assert_eq!(parse_payload(&frame[1..]), short(expected));
 }
 
 #[test]
@@ -82,7 +92,7 @@ fn a_write_has_its_data_behind_short_and_long_elements() {
         data: part(18, 32),
         ..Command::default()
     };
-    assert_eq!(parse_frame(&frame), Ok(expected));
+    assert_eq!(parse_frame(&frame), with_long(1, expected));
     assert_eq!(frame[1 + 18], 0x00);
     assert_eq!(frame[1 + 18 + 31], 0x1F);
 }
@@ -93,12 +103,12 @@ fn authentications_have_their_challenge() {
     challenge[..8].copy_from_slice(&bytes("81 82 83 84 85 86 87 88"));
     let expected =
         Command { code: 0x10, idm: I8, challenge, first: part(10, 0), second: part(11, 1), ..Command::default() };
-    assert_eq!(parse_frame(&bytes("16 10 I8 00 01 09 10 81 82 83 84 85 86 87 88")), Ok(expected));
+    assert_eq!(parse_frame(&bytes("16 10 I8 00 01 09 10 81 82 83 84 85 86 87 88")), short(expected));
 
     challenge[8..].copy_from_slice(&bytes("89 8A 8B 8C 8D 8E 8F 90"));
     let expected = Command { code: 0x40, idm: I8, challenge, selector: 0x7F, first: part(11, 1), ..Command::default() };
     let frame = bytes("1E 40 I8 7F 01 34 12 81 82 83 84 85 86 87 88 89 8A 8B 8C 8D 8E 8F 90");
-    assert_eq!(parse_frame(&frame), Ok(expected));
+    assert_eq!(parse_frame(&frame), short(expected));
 }
 
 #[test]
@@ -106,23 +116,23 @@ fn fixed_fields_stand_in_their_places() {
     let code = |code: u8| Command { code, idm: I8, ..Command::default() };
     assert_eq!(
         parse_frame(&bytes("0E 1A I8 34 12 02 01")),
-        Ok(Command { number: 0x1234, index: 0x0102, ..code(0x1A) })
+        short(Command { number: 0x1234, index: 0x0102, ..code(0x1A) })
     );
     assert_eq!(
         parse_frame(&bytes("12 20 I8 00 00 00 00 01 00 00 00")),
-        Ok(Command { option: 1, choice: 0, ..code(0x20) })
+        short(Command { option: 1, choice: 0, ..code(0x20) })
     );
     assert_eq!(
         parse_frame(&bytes("12 20 I8 00 00 00 00 00 01 00 00")),
-        Ok(Command { option: 0, choice: 1, ..code(0x20) })
+        short(Command { option: 0, choice: 1, ..code(0x20) })
     );
     assert_eq!(
         parse_frame(&bytes("0E 28 I8 01 01 34 12")),
-        Ok(Command { selector: 1, first: part(11, 1), ..code(0x28) })
+        short(Command { selector: 1, first: part(11, 1), ..code(0x28) })
     );
-    assert_eq!(parse_frame(&bytes("04 2E 01 02")), Ok(Command { idm: [0; 8], number: 0x0201, ..code(0x2E) }));
-    assert_eq!(parse_frame(&bytes("04 70 00 00")), Ok(Command { idm: [0; 8], ..code(0x70) }));
-    assert_eq!(parse_frame(&bytes("0A 04 I8")), Ok(code(0x04)));
+    assert_eq!(parse_frame(&bytes("04 2E 01 02")), short(Command { idm: [0; 8], number: 0x0201, ..code(0x2E) }));
+    assert_eq!(parse_frame(&bytes("04 70 00 00")), short(Command { idm: [0; 8], ..code(0x70) }));
+    assert_eq!(parse_frame(&bytes("0A 04 I8")), short(code(0x04)));
 }
 
 #[test]
@@ -170,23 +180,23 @@ fn a_payload_may_be_longer_than_a_frame() {
         data: part(523, 4080),
         ..Command::default()
     };
-    assert_eq!(parse_payload(&payload), Ok(expected));
+    assert_eq!(parse_payload(&payload), short(expected));
 }
 
 #[test]
 fn secure_payloads_have_no_code_byte() {
     let expected = Command { code: 0x14, block_list: part(1, 1), ..Command::default() };
-    assert_eq!(parse_secure_payload(0x14, &bytes("01 80 05")), Ok(expected));
-    assert_eq!(parse_secure_payload(0x14, &bytes("01 80 05 AA BB")), Ok(expected));
+    assert_eq!(parse_secure_payload(0x14, &bytes("01 80 05")), short(expected));
+    assert_eq!(parse_secure_payload(0x14, &bytes("01 80 05 AA BB")), short(expected));
 
     let challenge: [u8; 16] = std::array::from_fn(|i| i as u8 + 1);
     let expected = Command { code: 0x80, challenge, package: part(16, 2), ..Command::default() };
     let payload = bytes("01 02 03 04 05 06 07 08 09 0A 0B 0C 0D 0E 0F 10 77 78");
-    assert_eq!(parse_secure_payload(0x80, &payload), Ok(expected));
+    assert_eq!(parse_secure_payload(0x80, &payload), short(expected));
 
     let expected = Command { code: 0x82, number: 0x1234, package: part(2, 0), ..Command::default() };
-    assert_eq!(parse_secure_payload(0x82, &bytes("34 12")), Ok(expected));
-    assert_eq!(parse_secure_payload(0x8E, &[]), Ok(Command { code: 0x8E, ..Command::default() }));
+    assert_eq!(parse_secure_payload(0x82, &bytes("34 12")), short(expected));
+    assert_eq!(parse_secure_payload(0x8E, &[]), short(Command { code: 0x8E, ..Command::default() }));
 }
 
 #[test]
@@ -204,9 +214,10 @@ fn the_list_reader_fills_the_front_of_its_buffers() {
     // F1: short, access mode 7, place 1. 2F: long, access mode 2, place 15.
     let frame = bytes("17 06 I8 02 0B 10 09 11 03 F1 FF 2F 00 01 80 00");
     let mut owned = Owned::new([3, 1, 4, 3, 5]);
-    let command = list_frame(&frame, owned.lend());
-    assert_eq!(command, parse_frame(&frame));
-    assert_eq!(command.map(|c| (c.first, c.block_list)), Ok((part(10, 2), part(15, 3))));
+    let parsed = list_frame(&frame, owned.lend());
+    assert_eq!(parsed, parse_frame(&frame));
+    let expected = Command { code: 0x06, idm: I8, first: part(10, 2), block_list: part(15, 3), ..Command::default() };
+    assert_eq!(parsed, with_long(1, expected));
     let expected = Owned {
         first: vec![0x100B, 0x1109, 0xAAAA],
         second: vec![0xBBBB],
@@ -217,7 +228,7 @@ fn the_list_reader_fills_the_front_of_its_buffers() {
     assert_eq!(owned, expected);
 
     let mut owned = Owned::new([3, 1, 4, 3, 5]);
-    assert_eq!(list_payload(&frame[1..], owned.lend()), command);
+    assert_eq!(list_payload(&frame[1..], owned.lend()), parsed);
     assert_eq!(owned, expected);
 }
 
@@ -233,8 +244,8 @@ fn the_list_reader_reads_two_code_lists() {
 fn the_list_reader_reads_secure_payloads() {
     let payload = bytes("02 80 05 15 FF FF AA");
     let mut owned = Owned::new([0, 0, 2, 2, 2]);
-    let command = list_secure_payload(0x44, &payload, owned.lend());
-    assert_eq!(command, Ok(Command { code: 0x44, block_list: part(1, 2), ..Command::default() }));
+    let parsed = list_secure_payload(0x44, &payload, owned.lend());
+    assert_eq!(parsed, with_long(1, Command { code: 0x44, block_list: part(1, 2), ..Command::default() }));
     let lists = (&owned.numbers[..], &owned.places[..], &owned.modes[..]);
     assert_eq!(lists, (&[5, 0xFFFF][..], &[0, 5][..], &[0, 1][..]));
 }
@@ -373,9 +384,9 @@ fn a_secure_command_is_written_as_its_payload() {
 }
 
 /// Lists `payload` by `list`, writes the command back and gives the bytes.
-fn written_back(payload: &[u8], list: impl Fn(Buffers<'_>) -> Result<Command, Refusal>) -> Vec<u8> {
+fn written_back(payload: &[u8], list: impl Fn(Buffers<'_>) -> Result<Parsed, Refusal>) -> Vec<u8> {
     let mut owned = Owned::new([32, 32, 255, 255, 255]);
-    let command = list(owned.lend()).unwrap();
+    let command = list(owned.lend()).unwrap().command;
     let blocks = command.block_list.count;
     let bytes_of = |part: Part| &payload[part.start..part.start + part.count];
     let handed = Handed {
@@ -432,6 +443,9 @@ fn long_forms_and_tails_are_not_written_back() {
     let frame = bytes("11 06 I8 01 0B 10 01 00 FF 00");
     let back = written_back(&frame[1..], |buffers| list_frame(&frame, buffers));
     assert_eq!(back, bytes("10 06 I8 01 0B 10 01 80 FF"));
+    let (long, short) = (parse_frame(&frame).unwrap(), parse_frame(&back).unwrap());
+    assert_eq!(long.command, short.command);
+    assert_eq!((long.long, short.long), (1, 0));
 
     let payload = bytes("01 80 05 AA BB");
     let back = written_back(&payload, |buffers| list_secure_payload(0x14, &payload, buffers));

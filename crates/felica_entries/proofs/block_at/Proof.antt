@@ -6,6 +6,7 @@ use Prim.Native.Nat.{suc, _-_}
 use native.Mathlib.Omega.{arith}
 use denote.Ref.{now}
 use lib.ListN.{drop}
+use Rattle.felica_format.specs.Read.{formed}
 use Rattle.felica_command.specs.Types.{elementIs}
 use Rattle.felica_entries.specs.Entries.{valueOf, elementBehind}
 use Rattle.felica_cursor.specs.Steps.{elementTaken}
@@ -56,7 +57,7 @@ loop-again c =
     let element = c .before .taken .given in
     let p : loop .left ≡ suc (loop .left - 1) = omega arith in
     loop .inv ∙
-    behind-more (loop .left) (loop .left - 1) (drop (loop .at) s) (elementIs (element .0 .0)) _ p (c .before .before .before .take-element .ensures .0 ∙ ap (elementTaken s) (element .1))
+    behind-more (loop .left) (loop .left - 1) (drop (loop .at) s) (formed (element .0 .1 .0) (elementIs (element .0 .0))) _ p (c .before .before .before .take-element .ensures .0 ∙ ap (elementTaken s) (element .1))
 
 take-element-requires-2 : tie.Need-take-element-requires-2 Inv-loop μ-loop
 take-element-requires-2 c κs = search needs

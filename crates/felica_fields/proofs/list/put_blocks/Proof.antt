@@ -3,7 +3,7 @@
 use mathlib.Core.Path.{sym, ap, _∙_}
 use Rattle.felica_format.specs.Read.{readElement}
 use Rattle.felica_put.specs.Put.{put}
-use Rattle.felica_fields.specs.Entries.{elementText}
+use Rattle.felica_fields.specs.Entries.{formedText}
 use Rattle.felica_put.proofs.Laws.{put-then}
 use Rattle.felica_fields.proofs.Entries.{list-next, list-end, list-none}
 use borrow.Author.Needs.{needs}
@@ -18,7 +18,7 @@ same-length : tie.Need-same-length
 same-length c = search needs
 
 returns : tie.Need-returns
-returns c = c .before .before .put-byte .ensures ∙ ap (put _) (sym (list-none readElement elementText _ _ (c .before .before .before .before .if1 .taken)))
+returns c = c .before .before .put-byte .ensures ∙ ap (put _) (sym (list-none readElement formedText _ _ (c .before .before .before .before .if1 .taken)))
 
 take-element-requires : tie.Need-take-element-requires
 take-element-requires c κs = search needs
@@ -36,7 +36,7 @@ same-length-2 : tie.Need-same-length-2
 same-length-2 c = search needs
 
 returns-2 : tie.Need-returns-2
-returns-2 c = c .before .before .put-byte2 .ensures ∙ ap (put _) (sym (list-end readElement elementText _ _ (c .before .before .before .before .before .before .take-element .ensures .0 ∙ ap (elementTaken _) (c .before .before .before .before .enum-told .given .1))))
+returns-2 c = c .before .before .put-byte2 .ensures ∙ ap (put _) (sym (list-end readElement formedText _ _ (c .before .before .before .before .before .before .take-element .ensures .0 ∙ ap (elementTaken _) (c .before .before .before .before .enum-told .given .1))))
 
 put-block-requires : tie.Need-put-block-requires
 put-block-requires c κs = search needs
@@ -51,7 +51,7 @@ same-length-3 : tie.Need-same-length-3
 same-length-3 c = search needs
 
 returns-3 : tie.Need-returns-3
-returns-3 c = let e = list-next readElement elementText _ _ (c .before .before .before .before .before .before .before .before .before .before .before .before .if1 .left) (c .before .before .before .before .before .before .before .before .before .before .before .take-element .ensures .0 ∙ ap (elementTaken _) (c .before .before .before .before .before .before .before .before .before .first .given .1)) in
+returns-3 c = let e = list-next readElement formedText _ _ (c .before .before .before .before .before .before .before .before .before .before .before .before .if1 .left) (c .before .before .before .before .before .before .before .before .before .before .before .take-element .ensures .0 ∙ ap (elementTaken _) (c .before .before .before .before .before .before .before .before .before .first .given .1)) in
     put-then _ _ _ (c .before .before .before .before .before .before .put-block .ensures) (c .before .before .put-more-blocks .ensures) ∙ ap (put _) (sym e)
 
 pub put-blocks-spec : {M : Type 1} → statement M

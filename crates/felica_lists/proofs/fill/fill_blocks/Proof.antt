@@ -10,6 +10,7 @@ use denote.Ref.{now}
 use lib.ListN.{length, drop, length-set}
 use lib.Seq.{sets}
 use Rattle.felica_format.specs.Command.{Element}
+use Rattle.felica_format.specs.Read.{formed}
 use Rattle.felica_command.specs.Types.{elementIs}
 use Rattle.felica_command.specs.Meaning.{part}
 use Rattle.felica_command.specs.Places.{elementsSize}
@@ -89,12 +90,12 @@ loop-again c =
     let rest = a .list .count - (loop .i + 1) in
     let one : left ≡ suc rest = omega arith in
     let element = c .before .taken .given in
-    let next = element .0 .1 .0 .at in
+    let next = element .0 .1 .1 .0 .at in
     let answer = c .before .before .before .take-element .ensures in
     let took = answer .0 ∙ ap (elementTaken s) (element .1) in
     let placed = subst (λ (x : ElementTaken). ElementPlaced s (loop .at) x) (element .1) (answer .1) in
     let inside : next + elementsSize rest (drop next s) ≤ length s = omega (arith, loop .inv .1, size-more s (loop .at) next left rest one placed) in
-    let more = elements-next s (loop .at) next left rest (elementIs (element .0 .0)) one took inside in (
+    let more = elements-next s (loop .at) next left rest (formed (element .0 .1 .0) (elementIs (element .0 .0))) one took inside in (
       omega arith,
       inside,
       simp length-set (loop .inv .2),

@@ -90,7 +90,7 @@ returns-5 c =
     let placed-second = subst (λ (x : ListTaken). CodesPlaced (at-second .before .before .listed .given .0 .1 .0 .at + 1) x) (at-ending .before .before .listed-services .given .1) (at-second .take-second-codes .ensures .1) in
     let codes = at-second .before .before .listed .given .0 .0 in
     let count = wordsOf-length (codes .count) (drop (codes .start) s) in
-    accepted-at s 1 0x10 _ (Authentication1 codes (at-ending .before .before .listed-services .given .0 .0)) _ (at-idm .take-idm .result .idm) (at-ending .take-challenge-8 .result .challenge) _ _ layout-10 refl
+    accepted-at s 1 0x10 _ (Authentication1 codes (at-ending .before .before .listed-services .given .0 .0)) _ (at-idm .take-idm .result .idm) (at-ending .take-challenge-8 .result .challenge) 0 _ _ _ refl layout-10 refl
     (body 0x10 _ (drop 1 s) ∙ on _ idm (on _ (no-selector _) (on _ first (on _ second (on _ (no-elements _ _ _) (on _ (no-data _ _) (on _ ending (on _ (no-package _) refl))))))))
     refl refl
     (places-eq

@@ -88,7 +88,7 @@ returns-5 c =
     let behind-idm = subst (λ (x : Moved). MovesTo 9 (movedWith (at-idm .take-idm .result .idm) x)) (at-selector .before .before .step .given .1) (at-idm .take-idm .ensures .1) in
     let behind-selector = subst (λ (x : ByteTaken). MovesTo (at-selector .before .before .step .given .0 .0 .at + 1) (byteTaken x)) (at-first .before .before .taken .given .1) (at-selector .take-operation-parameter .ensures .1) in
     let placed-first = subst (λ (x : ListTaken). CodesPlaced (at-first .before .before .taken .given .0 .1 .0 .at + 1) x) (at-ending .before .before .listed .given .1) (at-first .take-first-codes .ensures .1) in
-    accepted-at s 1 0x40 _ (Authentication1V2 (at-first .before .before .taken .given .0 .0) (at-ending .before .before .listed .given .0 .0)) _ (at-idm .take-idm .result .idm) (at-ending .take-challenge-16 .result .challenge) _ _ layout-40 refl
+    accepted-at s 1 0x40 _ (Authentication1V2 (at-first .before .before .taken .given .0 .0) (at-ending .before .before .listed .given .0 .0)) _ (at-idm .take-idm .result .idm) (at-ending .take-challenge-16 .result .challenge) 0 _ _ _ refl layout-40 refl
     (body 0x40 _ (drop 1 s) ∙ on _ idm (on _ selector (on _ first (on _ (no-codes _ _ _) (on _ (no-elements _ _ _) (on _ (no-data _ _) (on _ ending (on _ (no-package _) refl))))))))
     refl refl
     (places-eq (codes-part s (at-ending .before .before .listed .given .0 .0) _ (omega (arith, placed-first .0, behind-selector, behind-idm))) refl refl refl refl) refl

@@ -44,7 +44,7 @@ returns-3 c =
     let s = now (start .args .payload) in
     let idm = at-idm .take-idm .ensures .0 ∙ ap (idmStep s (at-idm .take-idm .result .idm)) (at-ending .before .before .step .given .1) in
     let ending = at-ending .take-challenge-8 .ensures .0 ∙ ap (endStep s (at-ending .take-challenge-8 .result .challenge)) (c .before .before .enum-told2 .given .1) in
-    accepted-at s 1 0x12 _ Authentication2 _ (at-idm .take-idm .result .idm) (at-ending .take-challenge-8 .result .challenge) _ _ layout-12 refl
+    accepted-at s 1 0x12 _ Authentication2 _ (at-idm .take-idm .result .idm) (at-ending .take-challenge-8 .result .challenge) 0 _ _ _ refl layout-12 refl
     (body 0x12 _ (drop 1 s) ∙ on _ idm (on _ (no-selector _) (on _ (no-codes _ _ _) (on _ (no-codes _ _ _) (on _ (no-elements _ _ _) (on _ (no-data _ _) (on _ ending (on _ (no-package _) refl))))))))
     refl refl
     refl refl

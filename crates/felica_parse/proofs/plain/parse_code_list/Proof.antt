@@ -69,7 +69,7 @@ returns-4 c =
     let ending = at-ending .take-end .ensures .0 ∙ ap (endStep s (zeros 16)) (c .before .before .enum-told3 .given .1) in
     let behind-idm = subst (λ (x : Moved). MovesTo 9 (movedWith (at-idm .take-idm .result .idm) x)) (at-first .before .before .step .given .1) (at-idm .take-idm .ensures .1) in
     let placed-first = subst (λ (x : ListTaken). CodesPlaced (at-first .before .before .step .given .0 .0 .at + 1) x) (at-ending .before .before .listed .given .1) (at-first .take-first-codes .ensures .1) in
-    accepted-at s 1 (start .args .command-code) _ (c .before .code-list-kind .result) _ (at-idm .take-idm .result .idm) (zeros 16) _ _ (code-list-layout (start .args .command-code) (start .pre)) (c .before .code-list-kind .ensures)
+    accepted-at s 1 (start .args .command-code) _ (c .before .code-list-kind .result) _ (at-idm .take-idm .result .idm) (zeros 16) 0 _ _ _ refl (code-list-layout (start .args .command-code) (start .pre)) (c .before .code-list-kind .ensures)
     (body (start .args .command-code) _ (drop 1 s) ∙ on _ idm (on _ (no-selector _) (on _ first (on _ (no-codes _ _ _) (on _ (no-elements _ _ _) (on _ (no-data _ _) (on _ ending (on _ (no-package _) refl))))))))
     refl refl
     (places-eq (codes-part s (at-ending .before .before .listed .given .0 .0) _ (omega (arith, placed-first .0, behind-idm))) refl refl refl refl) refl

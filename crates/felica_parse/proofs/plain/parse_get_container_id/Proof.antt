@@ -34,7 +34,7 @@ returns-2 c =
     let s = now (start .args .payload) in
     let ending = at-ending .take-reserved .ensures .0 ∙ ap (endStep s (zeros 16)) (c .before .enum-told .given .1) in
     subst (λ (r : Parsed). BodyRead s 1 0x70 r) (sym (c .without-idm .ensures))
-    (accepted-at s 1 0x70 _ GetContainerId _ (zeros 8) (zeros 16) _ _ layout-70 refl
+    (accepted-at s 1 0x70 _ GetContainerId _ (zeros 8) (zeros 16) 0 _ _ _ refl layout-70 refl
     (body 0x70 _ (drop 1 s) ∙ on _ (no-idm _) (on _ (no-selector _) (on _ (no-codes _ _ _) (on _ (no-codes _ _ _) (on _ (no-elements _ _ _) (on _ (no-data _ _) (on _ ending (on _ (no-package _) refl))))))))
     refl refl
     refl refl)

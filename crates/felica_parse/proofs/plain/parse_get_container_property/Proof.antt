@@ -35,7 +35,7 @@ returns-2 c =
     let s = now (start .args .payload) in
     let ending = at-ending .take-word .ensures .0 ∙ ap (wordStep s) (c .before .before .before .taken .given .1) in
     subst (λ (r : Parsed). BodyRead s 1 0x2E r) (sym (c .without-idm .ensures))
-    (accepted-at s 1 0x2E _ (GetContainerProperty (c .before .from-index .result)) _ (zeros 8) (zeros 16) _ _ layout-2E refl
+    (accepted-at s 1 0x2E _ (GetContainerProperty (c .before .from-index .result)) _ (zeros 8) (zeros 16) 0 _ _ _ refl layout-2E refl
     (body 0x2E _ (drop 1 s) ∙ on _ (no-idm _) (on _ (no-selector _) (on _ (no-codes _ _ _) (on _ (no-codes _ _ _) (on _ (no-elements _ _ _) (on _ (no-data _ _) (on _ ending (on _ (no-package _) refl))))))))
     (rw ((c .before .from-index .ensures), property-index) refl) refl
     refl (property-canonical (c .before .before .before .taken .given .0 .0) _ (c .before .from-index .ensures)))

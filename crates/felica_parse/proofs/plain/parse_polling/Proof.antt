@@ -34,7 +34,7 @@ returns-2 c =
     let s = now (start .args .payload) in
     let ending = at-ending .take-polling .ensures .0 ∙ ap (pollingStep s) (c .before .before .taken .given .1) in
     subst (λ (r : Parsed). BodyRead s 1 0x00 r) (sym (c .without-idm .ensures))
-    (accepted-at s 1 0x00 _ (Polling (c .before .before .taken .given .0 .0) (c .before .before .taken .given .0 .1 .0) (c .before .before .taken .given .0 .1 .1 .0)) _ (zeros 8) (zeros 16) _ _ layout-00 refl
+    (accepted-at s 1 0x00 _ (Polling (c .before .before .taken .given .0 .0) (c .before .before .taken .given .0 .1 .0) (c .before .before .taken .given .0 .1 .1 .0)) _ (zeros 8) (zeros 16) 0 _ _ _ refl layout-00 refl
     (body 0x00 _ (drop 1 s) ∙ on _ (no-idm _) (on _ (no-selector _) (on _ (no-codes _ _ _) (on _ (no-codes _ _ _) (on _ (no-elements _ _ _) (on _ (no-data _ _) (on _ ending (on _ (no-package _) refl))))))))
     refl refl
     refl refl)

@@ -45,7 +45,7 @@ returns-3 c =
     let s = now (start .args .payload) in
     let idm = at-idm .take-idm .ensures .0 ∙ ap (idmStep s (at-idm .take-idm .result .idm)) (at-ending .before .before .step .given .1) in
     let ending = at-ending .take-parameter .ensures .0 ∙ ap (parameterStep s) (c .before .before .taken .given .1) in
-    accepted-at s 1 0x20 _ (SetParameter (c .before .before .taken .given .0 .0) (c .before .before .taken .given .0 .1 .0)) _ (at-idm .take-idm .result .idm) (zeros 16) _ _ layout-20 refl
+    accepted-at s 1 0x20 _ (SetParameter (c .before .before .taken .given .0 .0) (c .before .before .taken .given .0 .1 .0)) _ (at-idm .take-idm .result .idm) (zeros 16) 0 _ _ _ refl layout-20 refl
     (body 0x20 _ (drop 1 s) ∙ on _ idm (on _ (no-selector _) (on _ (no-codes _ _ _) (on _ (no-codes _ _ _) (on _ (no-elements _ _ _) (on _ (no-data _ _) (on _ ending (on _ (no-package _) refl))))))))
     refl refl
     refl refl

@@ -31,7 +31,7 @@ returns-2 c =
     let start = at-ending .before .before in
     let s = now (start .args .payload) in
     let ending = at-ending .take-end .ensures .0 ∙ ap (endStep s (zeros 16)) (c .enum-told .given .1) in
-    accepted-at s 0 0x8E _ ChangeSystemBlock _ (zeros 8) (zeros 16) _ _ layout-8E refl
+    accepted-at s 0 0x8E _ ChangeSystemBlock _ (zeros 8) (zeros 16) 0 _ _ _ refl layout-8E refl
     (body 0x8E _ (drop 0 s) ∙ on _ (no-idm _) (on _ (no-selector _) (on _ (no-codes _ _ _) (on _ (no-codes _ _ _) (on _ (no-elements _ _ _) (on _ (no-data _ _) (on _ ending (on _ (no-package _) refl))))))))
     refl refl
     refl refl

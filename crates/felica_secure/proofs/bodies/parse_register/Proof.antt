@@ -34,7 +34,7 @@ returns-2 c =
     let s = now (start .args .payload) in
     let ending = at-ending .take-packaged-word .ensures .0 ∙ ap (wordStep s) (c .before .before .before .taken .given .1) in
     let behind-ending = subst (λ (x : WordTaken). MovesTo 2 (wordTaken x)) (c .before .before .before .taken .given .1) (at-ending .take-packaged-word .ensures .1) in
-    accepted-at s 0 (start .args .command-code) _ (c .register-kind .result) _ (zeros 8) (zeros 16) _ _ (register-layout (start .args .command-code) (start .pre)) (c .register-kind .ensures)
+    accepted-at s 0 (start .args .command-code) _ (c .register-kind .result) _ (zeros 8) (zeros 16) 0 _ _ _ refl (register-layout (start .args .command-code) (start .pre)) (c .register-kind .ensures)
     (body (start .args .command-code) _ (drop 0 s) ∙ on _ (no-idm _) (on _ (no-selector _) (on _ (no-codes _ _ _) (on _ (no-codes _ _ _) (on _ (no-elements _ _ _) (on _ (no-data _ _) (on _ ending (on _ (whole-package _) refl))))))))
     (rw (package-bytes s (c .before .«package» .result) _ (c .before .«package» .ensures)) refl) refl
     (places-eq refl refl refl refl (package-part s (c .before .«package» .result) _ _ (c .before .«package» .ensures) behind-ending)) refl

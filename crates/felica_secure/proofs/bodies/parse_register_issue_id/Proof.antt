@@ -35,7 +35,7 @@ returns-2 c =
     let s = now (start .args .payload) in
     let ending = at-ending .take-issue .ensures .0 ∙ ap (endStep s (at-ending .take-issue .result .challenge)) (c .before .before .before .end .given .1) in
     let behind-ending = subst (λ (x : Moved). MovesTo 16 (movedWith (endFields 0 0 0 0 (at-ending .take-issue .result .challenge)) x)) (c .before .before .before .end .given .1) (at-ending .take-issue .ensures .1) in
-    accepted-at s 0 0x80 _ (RegisterIssueId (c .before .«package» .result)) _ (zeros 8) (at-ending .take-issue .result .challenge) _ _ layout-80 refl
+    accepted-at s 0 0x80 _ (RegisterIssueId (c .before .«package» .result)) _ (zeros 8) (at-ending .take-issue .result .challenge) 0 _ _ _ refl layout-80 refl
     (body 0x80 _ (drop 0 s) ∙ on _ (no-idm _) (on _ (no-selector _) (on _ (no-codes _ _ _) (on _ (no-codes _ _ _) (on _ (no-elements _ _ _) (on _ (no-data _ _) (on _ ending (on _ (whole-package _) refl))))))))
     (rw (package-bytes s (c .before .«package» .result) _ (c .before .«package» .ensures)) refl) refl
     (places-eq refl refl refl refl (package-part s (c .before .«package» .result) _ _ (c .before .«package» .ensures) behind-ending)) refl

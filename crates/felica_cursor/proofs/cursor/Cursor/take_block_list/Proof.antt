@@ -1,14 +1,17 @@
 -- `Cursor::take_block_list` meets its contract.
 -- Assumes nothing.
 use borrow.Author.Needs.{needs}
-use mathlib.Core.Path.{subst}
-use Prim.Native.Nat.{ℕ, _+_}
+use native.Mathlib.Omega.{arith}
+use mathlib.Core.Path.{_≡_, ap, _∙_, subst}
+use Prim.Native.Nat.{ℕ, _+_, _-_}
 use denote.Ref.{now}
+use lib.ListN.{length, drop, length-drop}
 use Rattle.felica_format.specs.Basic.{bind}
 use Rattle.felica_format.specs.Read.{readElements}
-use Rattle.felica_cursor.specs.Answers.{MovesTo, byteTaken}
+use Rattle.felica_cursor.specs.Answers.{asStep, MovesTo, byteTaken}
 use Rattle.felica_cursor.specs.Steps.{ElementsPlaced}
 use Rattle.felica_cursor.specs.declared.answers.ByteTaken.{ByteTaken}
+use Rattle.felica_cursor.proofs.Blocks.{count-taken}
 use Rattle.felica_cursor.proofs.cursor.Cursor.take_block_list.Statement.{statement}
 use Rattle.felica_cursor.proofs.cursor.Cursor.take_block_list.Tie as tie
 
@@ -29,7 +32,15 @@ unfolding readElements bind
 returns c = (simp (c .before .before .before .take-block-count .ensures .0, c .before .enum-told .given .1, c .ground .ensures), tt)
 
 take-elements-requires : tie.Need-take-elements-requires
-take-elements-requires c κs = search needs
+take-elements-requires c κs =
+    let count = c .before .before .before .take-block-count in
+    let args = c .before .before .before .before .before .args in
+    let s = now (args .payload) in
+    let next = subst (λ (x : ByteTaken). MovesTo (args .self .at + 1) (byteTaken x)) (c .before .counted .given .1) (count .ensures .1) in
+    let read = count .ensures .0 ∙ ap (λ (x : ByteTaken). asStep s (byteTaken x)) (c .before .counted .given .1) in
+    let (least, there) = count-taken _ _ 1 255 (drop (args .self .at) s) _ _ read in
+    let left : length (drop (args .self .at) s) ≡ length s - args .self .at = length-drop (args .self .at) s in
+    (omega (arith, least), omega (arith, next), omega (arith, next, there, left))
 
 returns-2 : tie.Need-returns-2
 unfolding readElements bind

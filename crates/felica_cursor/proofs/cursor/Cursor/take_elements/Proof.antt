@@ -1,55 +1,65 @@
--- `Cursor::take_elements` meets its contract: those taken stand in front of what the rest gives.
+-- `Cursor::take_elements` meets its contract: the walk takes whole elements, or stands one behind the payload's end, behind a long one that lacks its third byte.
 -- Assumes nothing.
 use borrow.Author.Needs.{needs}
 use mathlib.Core.Path.{_≡_, refl, sym, ap, _∙_, subst}
-use mathlib.Core.List.{List, [], _∷_, _++_}
-use Prim.Native.Nat.{_+_, _-_, suc}
+use Prim.Native.Nat.{ℕ, _+_, _-_, _*_, _≤_, _<_, suc}
 use native.Mathlib.Omega.{arith}
 use denote.Ref.{now}
-use lib.ListN.{drop}
-use Rattle.felica_format.specs.Basic.{refuse}
-use Rattle.felica_format.specs.Command.{Element}
-use Rattle.felica_format.specs.Read.{readEach, readElement}
-use Rattle.felica_command.specs.Types.{elementIs}
-use Rattle.felica_command.specs.Places.{elementsSize}
+use lib.ListN.{length, getD}
+use Rattle.felica_format.specs.Command.{longCount}
+use Rattle.felica_command.specs.Places.{elementSize}
 use Rattle.felica_command.proofs.Inside.{each-leaves}
-use Rattle.felica_cursor.specs.Steps.{elementTaken, ElementPlaced}
-use Rattle.felica_cursor.specs.declared.answers.ElementTaken.{ElementTaken}
-use Rattle.felica_cursor.proofs.Laws.{before, before-none, each-more, each-refused, each-done, size-more, size-done}
+use Rattle.felica_cursor.proofs.Blocks.{size-most, Walk, walk-none, walk-more, walk-cut, walk-done, walk-lacks}
 use Rattle.felica_cursor.proofs.cursor.Cursor.take_elements.Statement.{statement}
 use Rattle.felica_cursor.proofs.cursor.Cursor.take_elements.Tie as tie
 
 abbrev Inv-loop : tie.InvT-loop
-Inv-loop payload count start at₀ left₀ at left =
-    ((done : List Element) × (readEach count (drop start payload) ≡ before done (readEach left (drop at payload))))
-    × (start + elementsSize count (drop start payload) ≡ at + elementsSize left (drop at payload))
+Inv-loop payload count start last taken₀ left₀ taken left = Walk payload start count (taken + 1) left
 
 abbrev μ-loop : tie.MeasureT-loop
-μ-loop payload count start at₀ left₀ at left = left
+μ-loop payload count start last taken₀ left₀ taken left = left
+
+before-two-requires : tie.Need-before-two-requires Inv-loop μ-loop
+before-two-requires c κs = search needs
+
+sub-taken : tie.Need-sub-taken Inv-loop μ-loop
+sub-taken c = search needs
 
 loop-holds : tie.Need-loop-holds Inv-loop μ-loop
-loop-holds c = (([], before-none _), refl)
+loop-holds c =
+    let args = c .before .before .args in
+    let same : args .self .at ≡ args .self .at - 1 + 1 = omega arith in
+    subst (λ (at : ℕ). Walk (now (args .payload)) (args .self .at) (args .count) at (args .count)) same (walk-none (now (args .payload)) (args .self .at) (args .count) (omega arith))
 
-take-element-requires : tie.Need-take-element-requires Inv-loop μ-loop
-take-element-requires c κs = search needs
-
-enum-known-taken : tie.Need-enum-known-taken Inv-loop μ-loop
-enum-known-taken c = search needs
-
-enum-told : tie.Need-enum-told Inv-loop μ-loop
-enum-told c = search needs
-
-ground-requires : tie.Need-ground-requires Inv-loop μ-loop
-ground-requires c κs = search needs
+cut-off-requires : tie.Need-cut-off-requires Inv-loop μ-loop
+cut-off-requires c κs = search needs
 
 returns : tie.Need-returns Inv-loop μ-loop
 returns c =
-    let loop = c .before .before .before .before .before .loop in
+    let loop = c .before .before .before .loop in
+    let args = c .before .before .before .before .before .before .args in
+    let s = now (args .payload) in
+    let more : loop .left ≡ suc (loop .left - 1) = omega arith in
+    let few : length s < loop .taken + 1 + 2 = omega arith in (
+      walk-cut s (args .self .at) (args .count) (loop .taken + 1) (loop .left) (loop .left - 1) more (c .cut-off .result) few
+      (λ beyond. c .cut-off .ensures .0 (omega arith)) (λ inside. c .cut-off .ensures .1 (omega arith) (omega arith)) (loop .inv),
+      tt,
+    )
+
+add-element-size : tie.Need-add-element-size Inv-loop μ-loop
+add-element-size c = search needs
+
+shared-slice-read-element-size : tie.Need-shared-slice-read-element-size Inv-loop μ-loop
+shared-slice-read-element-size c = omega arith
+
+element-size-requires : tie.Need-element-size-requires Inv-loop μ-loop
+element-size-requires c κs = search needs
+
+add-taken : tie.Need-add-taken Inv-loop μ-loop
+add-taken c =
     let s = now (c .before .before .before .before .before .before .before .args .payload) in
-    let q : readElement (drop (loop .at) s) ≡ refuse (c .ground .result) =
-    simp (c .before .before .before .take-element .ensures .0, c .before .enum-told .given .1, c .ground .ensures) in
-    let p : loop .left ≡ suc (loop .left - 1) = omega arith in
-    (loop .inv .0 .1 ∙ each-refused (loop .inv .0 .0) (loop .left) (loop .left - 1) (c .ground .result) (drop (loop .at) s) p q, tt)
+    let most = size-most (getD s (c .before .before .before .before .loop .taken + 1) 0) in
+    omega (arith, most, c .element-size .ensures)
 
 sub-left : tie.Need-sub-left Inv-loop μ-loop
 sub-left c = search needs
@@ -59,28 +69,63 @@ loop-less c = search needs
 
 loop-again : tie.Need-loop-again Inv-loop μ-loop
 loop-again c =
-    let loop = c .before .before .before .before .before .loop in
-    let s = now (c .before .before .before .before .before .before .before .args .payload) in
-    let element = c .before .taken .given in
-    let e = elementIs (element .0 .0) in
-    let next = element .0 .1 .0 .at in
-    let p : loop .left ≡ suc (loop .left - 1) = omega arith in
-    let took = c .before .before .before .take-element .ensures .0 ∙ ap (elementTaken s) (element .1) in
-    let placed = subst (λ (x : ElementTaken). ElementPlaced s (loop .at) x) (element .1) (c .before .before .before .take-element .ensures .1) in (
-      (
-        loop .inv .0 .0 ++ (e ∷ []),
-        loop .inv .0 .1 ∙ each-more (loop .inv .0 .0) e (loop .left) (loop .left - 1) (drop (loop .at) s) (drop next s) p took,
-      ),
-      loop .inv .1 ∙ size-more s (loop .at) next (loop .left) (loop .left - 1) p placed,
-    )
+    let loop = c .before .before .before .before .loop in
+    let args = c .before .before .before .before .before .before .before .args in
+    let s = now (args .payload) in
+    let more : loop .left ≡ suc (loop .left - 1) = omega arith in
+    let two : loop .taken + 1 + 2 ≤ length s = omega arith in
+    let next : loop .taken + 1 + elementSize (getD s (loop .taken + 1) 0) ≡ loop .taken + c .element-size .result + 1 = omega (arith, c .element-size .ensures) in
+    subst (λ (at : ℕ). Walk s (args .self .at) (args .count) at (loop .left - 1)) next
+    (walk-more s (args .self .at) (args .count) (loop .taken + 1) (loop .left) (loop .left - 1) more two (loop .inv))
 
 returns-2 : tie.Need-returns-2 Inv-loop μ-loop
 returns-2 c =
-    let loop = c .before .loop in
-    let s = now (c .before .before .before .args .payload) in
-    let p : loop .left ≡ 0 = omega arith in
-    let h = loop .inv .0 .1 ∙ each-done (loop .inv .0 .0) (loop .left) (drop (loop .at) s) p in
-    (rw h, (refl, rw h (each-leaves _ _ _ _ h .1), sym (loop .inv .1 ∙ size-done s (loop .at) (loop .left) p)))
+    let loop = c .before .before .loop in
+    let args = c .before .before .before .before .before .args in
+    (walk-lacks (now (args .payload)) (args .self .at) (args .count) (loop .taken + 1) (loop .left) (omega arith) (loop .inv), tt)
+
+add-at : tie.Need-add-at Inv-loop μ-loop
+add-at c = search needs
+
+sub-long : tie.Need-sub-long Inv-loop μ-loop
+sub-long c =
+    let loop = c .before .before .loop in
+    let args = c .before .before .before .before .before .args in
+    let none : loop .left ≡ 0 = omega arith in
+    let inside : loop .taken + 1 ≤ length (now (args .payload)) = omega arith in
+    let (done, read, size, few, reach) = walk-done (now (args .payload)) (args .self .at) (args .count) (loop .taken + 1) (loop .left) none inside (loop .inv) in
+    omega (arith, size, few)
+
+mul-long : tie.Need-mul-long Inv-loop μ-loop
+mul-long c = omega arith
+
+sub-long-2 : tie.Need-sub-long-2 Inv-loop μ-loop
+sub-long-2 c =
+    let loop = c .before .before .loop in
+    let args = c .before .before .before .before .before .args in
+    let none : loop .left ≡ 0 = omega arith in
+    let inside : loop .taken + 1 ≤ length (now (args .payload)) = omega arith in
+    let (done, read, size, few, reach) = walk-done (now (args .payload)) (args .self .at) (args .count) (loop .taken + 1) (loop .left) none inside (loop .inv) in
+    omega (arith, size, few)
+
+cast-t21 : tie.Need-cast-t21 Inv-loop μ-loop
+cast-t21 c =
+    let loop = c .before .before .loop in
+    let args = c .before .before .before .before .before .args in
+    let none : loop .left ≡ 0 = omega arith in
+    let inside : loop .taken + 1 ≤ length (now (args .payload)) = omega arith in
+    let (done, read, size, few, reach) = walk-done (now (args .payload)) (args .self .at) (args .count) (loop .taken + 1) (loop .left) none inside (loop .inv) in
+    omega (arith, size, few)
+
+returns-3 : tie.Need-returns-3 Inv-loop μ-loop
+returns-3 c =
+    let loop = c .before .before .loop in
+    let args = c .before .before .before .before .before .args in
+    let none : loop .left ≡ 0 = omega arith in
+    let inside : loop .taken + 1 ≤ length (now (args .payload)) = omega arith in
+    let (done, read, size, few, reach) = walk-done (now (args .payload)) (args .self .at) (args .count) (loop .taken + 1) (loop .left) none inside (loop .inv) in
+    let long : loop .taken + 1 - args .self .at - 2 * args .count ≡ longCount done = omega (arith, size) in
+    (rw read, (refl, rw read (each-leaves _ _ _ _ read .1), reach, rw read long))
 
 pub take-elements-spec : {M : Type 1} → statement M
 take-elements-spec =
@@ -88,13 +133,22 @@ take-elements-spec =
     (tie.spec
     Inv-loop
     μ-loop
+    before-two-requires
+    sub-taken
     loop-holds
-    take-element-requires
-    enum-known-taken
-    enum-told
-    ground-requires
+    cut-off-requires
     returns
+    add-element-size
+    shared-slice-read-element-size
+    element-size-requires
+    add-taken
     sub-left
     loop-less
     loop-again
-    returns-2)
+    returns-2
+    add-at
+    sub-long
+    mul-long
+    sub-long-2
+    cast-t21
+    returns-3)
