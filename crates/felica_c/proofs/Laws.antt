@@ -20,7 +20,7 @@ use Rattle.felica_write.specs.Writing as writer
 use Rattle.felica_c.specs.declared.answer.FelicaAnswer.{FelicaAnswer}
 use Rattle.felica_c.specs.declared.answer.FelicaWritten.{FelicaWritten}
 use Rattle.felica_c.specs.Boundary.{Lent, lent, partsOf, Told, told, answer, telling, writtenAnswer}
-use Rattle.felica_c.specs.Fields.{Put, put, putFields, refusal, refusalCode, tellAnswer, tell, unwrittenBy}
+use Rattle.felica_c.specs.Fields.{Put, put, putFields, refusedAnswer, tellAnswer, tell, unwrittenBy}
 
 pub same-put : (code : ℕ) (fields parts others : List ℕ) → parts ≡ others → put code fields parts ≡ put code fields others
 same-put code fields parts others e = ap (put code fields) e
@@ -43,10 +43,10 @@ told-command p kind m code fields parts is same =
     ap (λ (x : Put). told (answer 0 (x .code) (p .long)) (lent (p .idm) (p .challenge) (x .fields) (x .parts))) same
     ∙ ap (λ (a : Answer). tellAnswer (p .idm) (p .challenge) (p .long) a m) (sym is)
 
-pub told-refusal : (p : Parsed) (why : Refusal) (m : Lent) (r : FelicaAnswer) → p .answer ≡ AnswerRefused why → r ≡ answer (refusal why) (refusalCode why) 0
+pub told-refusal : (p : Parsed) (why : Refusal) (m : Lent) (r : FelicaAnswer) → p .answer ≡ AnswerRefused why → r ≡ refusedAnswer (p .answer)
     → told r m ≡ tell p m
 told-refusal p why m r is same =
-    ap (λ (a : FelicaAnswer). told a m) same ∙ ap (λ (a : Answer). tellAnswer (p .idm) (p .challenge) (p .long) a m) (sym is)
+    ap (λ (a : FelicaAnswer). told a m) (same ∙ ap refusedAnswer is) ∙ ap (λ (a : Answer). tellAnswer (p .idm) (p .challenge) (p .long) a m) (sym is)
 
 -- what is told of a result is told of what the bytes give
 answer-tells : (s idm challenge : List ℕ) (long at : ℕ) (a : Answer) (m : Lent) → answerPlaces a ≡ readPlaces at s (answerIs s idm challenge long a)

@@ -11,6 +11,7 @@ use Rattle.felica_command.specs.declared.command.Refusal.the-variants.{Number, 
 use Rattle.felica_command.specs.declared.command.Answer.{Answer}
 use Rattle.felica_command.specs.declared.command.Answer.the-variants.{Command as AnswerCommand, Refused as AnswerRefused}
 use Rattle.felica_command.specs.declared.command.Parsed.{Parsed}
+use Rattle.felica_c.specs.declared.answer.FelicaAnswer.{FelicaAnswer}
 use Rattle.felica_c.specs.declared.answer.FelicaWritten.{FelicaWritten}
 use Rattle.felica_c.specs.Boundary.{Lent, lent, fixedFields, partsOf, Told, told, answer}
 
@@ -34,10 +35,15 @@ abbrev pub refusalCode : Refusal → ℕ
 refusalCode (Number n) = 0
 refusalCode (OfCommand n code) = code
 
+-- what is told of a refusal; nothing of a command
+abbrev pub refusedAnswer : Answer → FelicaAnswer
+refusedAnswer (AnswerRefused why) = answer (refusal why) (refusalCode why) 0
+refusedAnswer (AnswerCommand kind) = answer 0 0 0
+
 abbrev pub tellAnswer : List ℕ → List ℕ → ℕ → Answer → Lent → Told
 tellAnswer idm challenge long (AnswerCommand kind) m =
     told (answer 0 (putFields (fieldsOf kind) .code) long) (lent idm challenge (putFields (fieldsOf kind) .fields) (putFields (fieldsOf kind) .parts))
-tellAnswer idm challenge long (AnswerRefused why) m = told (answer (refusal why) (refusalCode why) 0) m
+tellAnswer idm challenge long (AnswerRefused why) m = told (refusedAnswer (AnswerRefused why)) m
 
 abbrev pub tell : Parsed → Lent → Told
 tell p m = tellAnswer (p .idm) (p .challenge) (p .long) (p .answer) m

@@ -1,7 +1,7 @@
 // A result, told to a caller that knows bytes and numbers only.
 ghost use mathlib.Core.Path.{_≡_};
-ghost use Rattle.felica_c.specs.Boundary.{lent, told, answer};
-ghost use Rattle.felica_c.specs.Fields.{refusal, refusalCode, tell as tellParsed, unwrittenBy};
+ghost use Rattle.felica_c.specs.Boundary.{lent, told};
+ghost use Rattle.felica_c.specs.Fields.{refusedAnswer, tell as tellParsed, unwrittenBy};
 use crate::answer::FelicaAnswer;
 use crate::answer::FelicaWritten;
 use crate::fields::put_fields;
@@ -20,35 +20,40 @@ pub fn tell(
     ensures { λ r. ⌜ told r (lent (now (idm .exit)) (now (challenge .exit)) (now (fields .exit)) (now (parts .exit))) ≡ tellParsed parsed (lent (now (idm .entry)) (now (challenge .entry)) (now (fields .entry)) (now (parts .entry))) ⌝ }
 {
     let answer = parsed.answer;
-    match answer {
-        Answer::Command(command) => {
-            let code = put_fields(command, fields, parts);
-            let its_idm = parsed.idm;
-            let its_challenge = parsed.challenge;
-            *idm = its_idm;
-            *challenge = its_challenge;
-            FelicaAnswer {
-                refusal: 0,
-                code: code,
-                long_count: parsed.long,
-            }
-        }
-        Answer::Refused(why) => refused(why),
+    let Answer::Command(command) = answer else {
+        return refused(answer);
+    };
+    let its_idm = parsed.idm;
+    let its_challenge = parsed.challenge;
+    *idm = its_idm;
+    *challenge = its_challenge;
+    let code = put_fields(command, fields, parts);
+    FelicaAnswer {
+        refusal: 0,
+        code: code,
+        long_count: parsed.long,
     }
 }
 
-fn refused(why: Refusal) -> FelicaAnswer
-    ensures { λ r. ⌜ r ≡ answer (refusal why) (refusalCode why) 0 ⌝ }
+fn refused(answer: Answer) -> FelicaAnswer
+    ensures { λ r. ⌜ r ≡ refusedAnswer answer ⌝ }
 {
-    match why {
-        Refusal::Number(number) => FelicaAnswer {
-            refusal: number,
-            code: 0,
-            long_count: 0,
+    match answer {
+        Answer::Refused(why) => match why {
+            Refusal::Number(number) => FelicaAnswer {
+                refusal: number,
+                code: 0,
+                long_count: 0,
+            },
+            Refusal::OfCommand(number, code) => FelicaAnswer {
+                refusal: number,
+                code: code,
+                long_count: 0,
+            },
         },
-        Refusal::OfCommand(number, code) => FelicaAnswer {
-            refusal: number,
-            code: code,
+        Answer::Command(_) => FelicaAnswer {
+            refusal: 0,
+            code: 0,
             long_count: 0,
         },
     }
