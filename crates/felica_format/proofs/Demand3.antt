@@ -1,4 +1,5 @@
--- Demand 3 over the definitions: the statements of specs/Demand3.antt, each proved under its name at the end.
+-- Demand 3 over the definitions: the statements of specs/Demand3.antt, and those of specs/Long.antt that speak of choices of forms, each proved under its name at
+-- the end.
 -- Assumes nothing.
 use Prim.Native.Nat.{ℕ, suc, _≤_, _<_}
 use native.Mathlib.Nat.{le-of-eq}
@@ -22,7 +23,8 @@ use Rattle.felica_format.specs.Writable.{bodyOk, fitsClass, writable, sh
 use Rattle.felica_format.specs.Demand3.{FrameGives, PayloadGives, HasFrame, HasPayload, MayFollow, Around, FramesAreChoices, PayloadsAreChoices}
 use Rattle.felica_format.specs.Demand3.{ShortFrameAccepted, ShortPayloadAccepted, OtherFramesLonger, OtherPayloadsLonger}
 use Rattle.felica_format.specs.Demand3.{ShortFrameWritten, ShortPayloadWritten, UnwritableExactly, FrameReadBack, PayloadReadBack, TwoFrames, TwoPayloads}
-use Rattle.felica_format.specs.Demand3.{FrameLongCounted, PayloadLongCounted, OneFormFrom256}
+use Rattle.felica_format.specs.Demand3.{OneFormFrom256}
+use Rattle.felica_format.specs.Long.{FrameLongCounted, PayloadLongCounted, PlainLongCounted}
 use Rattle.felica_format.proofs.Steps.{not-given}
 use Rattle.felica_format.proofs.Tests.{tests, and-left, and-right, and-both}
 use Rattle.felica_format.proofs.Bytes.{allBelow-++, head-below}
@@ -356,6 +358,16 @@ unfolding payload-back
 payload-long-counted c (k, t, g) forms tail follows =
     let a = secured k t c g in
     payload-back forms c tail (a .class) (a .ok) (secure-follows (c .code) tail (a .class) follows) .2
+
+pub plain-long-counted : PlainLongCounted
+unfolding readPayload
+plain-long-counted c ([], small, long, e) forms = absurd (not-given e)
+plain-long-counted c (code ∷ body, small, long, e) forms =
+    let (class, rest, read) = plain-gives (classOf code) code body c long e in
+    let a = accepted Plain code body c long rest class (plain-layout code class) (and-right _ _ small) read in
+    let l : Layout = layoutOf (c .code) in
+    let back = rw append-nil at (body-back l (plain-layout (c .code) (a .class)) forms c [] (a .ok) (left-none (l .behind))) in
+    rw (a .class, back)
 
 pub one-form-from-256 : OneFormFrom256
 one-form-from-256 long e h = by-form (λ (w : List ℕ). w ≡ longBytes e) long e (λ below. absurd (omega arith)) (λ why. refl)

@@ -33,7 +33,7 @@ module _ (e : Element) (ok : elementOk e ≡ true) where
   mode-small : e .mode < 8
   mode-small = ltb-true _ _ (and-right _ _ (and-right _ _ ok))
 
-  short-back : e .number < 256 → (rest : List ℕ) → readElement (shortBytes e ++ rest) ≡ taken (formed false e) rest
+  pub short-back : e .number < 256 → (rest : List ℕ) → readElement (shortBytes e ++ rest) ≡ taken (formed false e) rest
   unfolding readElement readShort shortBytes
   short-back h rest =
       let p = place-small in
@@ -41,7 +41,7 @@ module _ (e : Element) (ok : elementOk e ≡ true) where
       let set : ltb (128 + headOf e) 128 ≡ false = omega tests in
       rw set (ap (λ (x : Element). taken (formed false x) rest) (same-element refl (omega arith) (omega arith)))
 
-  long-back : (rest : List ℕ) → readElement (longBytes e ++ rest) ≡ taken (formed true e) rest
+  pub long-back : (rest : List ℕ) → readElement (longBytes e ++ rest) ≡ taken (formed true e) rest
   unfolding readElement readLong longBytes
   long-back rest =
       let n = number-small in

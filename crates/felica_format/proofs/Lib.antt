@@ -10,6 +10,7 @@ pub mod Ending
 pub mod Body
 pub mod Rows
 pub mod Demand3
+pub mod Long
 pub mod Grounds
 pub mod Members
 pub mod Tables

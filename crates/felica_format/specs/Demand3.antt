@@ -13,7 +13,7 @@ use Rattle.felica_format.specs.Basic.{Bytes, isOneOf}
 use Rattle.felica_format.specs.Command.{Command, Element, elementsOf}
 use Rattle.felica_format.specs.Layout.{classOf}
 use Rattle.felica_format.specs.Read.{gives, readFrame, readSecure}
-use Rattle.felica_format.specs.Write.{Forms, longBytes, elementBytes, eachBytes, longIn, frameOf, secureOf}
+use Rattle.felica_format.specs.Write.{Forms, longBytes, elementBytes, eachBytes, frameOf, secureOf}
 use Rattle.felica_format.specs.Writable.{written}
 
 -- "A frame, or a payload with its secure code, is accepted when the layouts and checks above find no ground against it, and gives the command
@@ -100,16 +100,6 @@ TwoPayloads =
     (c : Command) (s t : List ℕ) → PayloadGives (c .code) s c → PayloadGives (c .code) t c
     → (before : List ℕ) × (after : List ℕ) × (u : List ℕ) × (v : List ℕ) × MayFollow (c .code) u × MayFollow (c .code) v
     × Around c before (after ++ u) s × Around c before (after ++ v) t
-
--- "how many were long": with its command, a choice of forms gives how many elements it makes long.
-abbrev pub FrameLongCounted : Type 0
-FrameLongCounted =
-    (c : Command) → HasFrame c → (forms : Forms) → length (frameOf forms c) ≤ 255 → readFrame (frameOf forms c) ≡ gives c (longIn forms (elementsOf c))
-
-abbrev pub PayloadLongCounted : Type 0
-PayloadLongCounted =
-    (c : Command) → HasPayload c → (forms : Forms) (tail : List ℕ) → MayFollow (c .code) tail
-    → readSecure (c .code) (secureOf forms c ++ tail) ≡ gives c (longIn forms (elementsOf c))
 
 -- An element numbered from 256 up has one form.
 abbrev pub OneFormFrom256 : Type 0
