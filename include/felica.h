@@ -136,7 +136,7 @@ enum felica_limit {
 struct felica_answer {
     uint8_t refusal;
     uint8_t code;
-    uint8_t long_count;
+    uint16_t long_count;
 };
 
 /*

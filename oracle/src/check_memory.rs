@@ -49,7 +49,7 @@ fn check_lists(
     bytes: &[u8],
     sizes: &Values,
     answer: &Answer,
-    long_count: u8,
+    long_count: u16,
 ) -> Result<(), String> {
     let (at, size) = (bytes.as_ptr(), bytes.len());
     let mut lent = sizes.clone();
@@ -78,7 +78,7 @@ fn check_lists(
 fn check_call(
     name: &str,
     answer: &Answer,
-    long_count: u8,
+    long_count: u16,
     call: &mut dyn FnMut(&mut Memory) -> ffi::FelicaAnswer,
 ) -> Result<(), String> {
     let right = match answer {

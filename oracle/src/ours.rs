@@ -59,7 +59,7 @@ struct Elements {
     numbers: Vec<u16>,
     places: Vec<u8>,
     modes: Vec<u8>,
-    long: u8,
+    long: u16,
     end: usize,
 }
 
@@ -72,7 +72,7 @@ fn elements(payload: &[u8], part: Part) -> Option<Elements> {
         read.numbers.push(u16::from_le_bytes([low, high]));
         read.places.push(head & 0x0F);
         read.modes.push(head >> 4 & 0x07);
-        read.long += u8::from(head & 0x80 == 0);
+        read.long += u16::from(head & 0x80 == 0);
         read.end += if head & 0x80 == 0 { 3 } else { 2 };
     }
     Some(read)
@@ -102,7 +102,7 @@ fn check_places(command: &Command, payload: &[u8]) -> Result<(), String> {
 }
 
 /// How many elements of an accepted payload are long.
-pub fn long_by_layout(code: u8, payload: &[u8]) -> Result<u8, String> {
+pub fn long_by_layout(code: u8, payload: &[u8]) -> Result<u16, String> {
     let row = layout(code).ok_or_else(|| format!("a command with the code {code:02X}"))?;
     let mut at = row.front();
     for there in [row.first.is_some(), row.second.is_some()] {
@@ -112,7 +112,7 @@ pub fn long_by_layout(code: u8, payload: &[u8]) -> Result<u8, String> {
     Ok(elements(payload, block_list).ok_or("the layout leaves the payload")?.long)
 }
 
-fn same_long(ours: u8, right: u8) -> Result<(), String> {
+fn same_long(ours: u16, right: u16) -> Result<(), String> {
     if ours == right {
         return Ok(());
     }

@@ -5,7 +5,7 @@
 pub struct FelicaAnswer {
     pub refusal: u8,
     pub code: u8,
-    pub long_count: u8,
+    pub long_count: u16,
 }
 
 // 0 and how many bytes were written; or the number of a refusal and 0. Its code is the one handed in.

@@ -31,7 +31,7 @@ pub fn tell(
     FelicaAnswer {
         refusal: 0,
         code: code,
-        long_count: parsed.long,
+        long_count: parsed.long as u16,
     }
 }
 

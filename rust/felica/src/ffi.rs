@@ -5,7 +5,7 @@
 pub struct FelicaAnswer {
     pub refusal: u8,
     pub code: u8,
-    pub long_count: u8,
+    pub long_count: u16,
 }
 
 #[repr(C)]

@@ -52,7 +52,7 @@ pub struct Command {
 #[derive(Clone, Copy, Debug, Default, PartialEq, Eq)]
 pub struct Parsed {
     pub command: Command,
-    pub long: u8,
+    pub long: u16,
 }
 
 /// The number of a ground, 1 to 22, and the command code, which 1 to 3 lack.
