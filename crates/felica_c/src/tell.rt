@@ -27,11 +27,12 @@ pub fn tell(
     let its_challenge = parsed.challenge;
     *idm = its_idm;
     *challenge = its_challenge;
+    let long = parsed.long as u16;
     let code = put_fields(command, fields, parts);
     FelicaAnswer {
         refusal: 0,
         code: code,
-        long_count: parsed.long as u16,
+        long_count: long,
     }
 }
 

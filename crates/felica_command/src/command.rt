@@ -167,13 +167,13 @@ pub enum Answer {
     Refused(Refusal),
 }
 
-// The answer, with how many elements were long and the arrays of the command beside it. They are zero where the command lacks them and beside every refusal.
+// The answer, with the arrays of the command and how many elements were long beside it. They are zero where the command lacks them and beside every refusal.
 pub struct Parsed {
-    pub long: u8,
     pub answer: Answer,
     pub idm: [u8; 8],
     // 40 and 42: the challenge. 10 and 12: their challenge of 8 bytes, then eight zeros. 80: the issue id, then the issue parameter.
     pub challenge: [u8; 16],
+    pub long: u8,
 }
 
 impl Parsed {

@@ -22,19 +22,19 @@ returns c =
     told-refusal (a .parsed) _ (lent (now (a .idm)) (now (a .challenge)) (now (a .fields)) (now (a .parts))) _ (c .before .enum-told .given .1)
     (c .refused .ensures)
 
+cast-long : tie.Need-cast-long
+cast-long c = search needs
+
 put-fields-requires : tie.Need-put-fields-requires
 put-fields-requires c κs = search needs
-
-cast-t13 : tie.Need-cast-t13
-cast-t13 c = search needs
 
 returns-2 : tie.Need-returns-2
 returns-2 c =
     let a = c .before .before .before .before .before .before .before .before .before .args in
     told-command (a .parsed) _ (lent (now (a .idm)) (now (a .challenge)) (now (a .fields)) (now (a .parts))) _ _ _
-    (c .before .before .before .before .before .before .before .answer .given .1) (c .before .put-fields .ensures)
+    (c .before .before .before .before .before .before .before .answer .given .1) (c .put-fields .ensures)
 
 pub tell-spec : {M : Type 1} → statement M
 tell-spec =
     tie.close
-    (tie.spec enum-known-answer enum-told refused-requires returns put-fields-requires cast-t13 returns-2)
+    (tie.spec enum-known-answer enum-told refused-requires returns cast-long put-fields-requires returns-2)
