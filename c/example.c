@@ -218,7 +218,7 @@ static void print_frame(const struct bytes *frame) {
     print_fixed(&command);
     print_lists(&command, payload);
     if (answer.long_count != 0) {
-        printf("  in long form: %u\n", answer.long_count);
+        printf("  elements in long form: %u\n", answer.long_count);
     }
     print_written(frame, &command, payload);
 }

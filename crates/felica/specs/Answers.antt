@@ -18,7 +18,7 @@ use Rattle.felica_writing.specs.Answer.{writeAnswer}
 use Rattle.felica.specs.Source.{readingOf, payloadIn, bodyAt}
 use Rattle.felica.specs.Lists.{listAnswer}
 
--- of a call to parse, the line of the one result that the definitions allow; the fields of a call to write stand in the line
+-- of a call to parse, the line of the one result that the definitions allow; of one that asks how many elements were long, the line of what they count; the fields of a call to write stand in the line
 abbrev pub AnswerTo : List ℕ → Call → List ℕ → Buffer → Buffer → Type 0
 AnswerTo line (Parse source n) bytes before after =
     (p : Parsed) × Account (payloadIn source (take n bytes)) (bodyAt source) (readingOf source (take n bytes)) p

@@ -1,4 +1,4 @@
-// Answers to calls of the parser.
+// Answers to calls of the parser, and to those that ask how many elements were long.
 ghost use mathlib.Core.Path.{_≡_};
 ghost use Rattle.felica_command.specs.Places.{Account};
 ghost use Rattle.felica_command.specs.declared.command.Parsed.{Parsed};

@@ -1,4 +1,4 @@
-// The line that answers a call: what the parser, the list reader or the writer gives, written into a lent buffer.
+// The line that answers a call: what the parser, the list reader or the writer gives, or how many elements were long, written into a lent buffer.
 pub mod answer;
 mod fields;
 pub mod lists;

@@ -17,12 +17,12 @@ pub fn put_long(out: &mut [u8], at: usize, parsed: Parsed) -> usize
 {
     let answer = parsed.answer;
     match answer {
-        Answer::Command(_) => put_longs(out, at, parsed.long),
+        Answer::Command(_) => put_count(out, at, parsed.long),
         Answer::Refused(refusal) => put_refusal(out, at, refusal),
     }
 }
 
-fn put_longs(out: &mut [u8], at: usize, long: u8) -> usize
+fn put_count(out: &mut [u8], at: usize, long: u8) -> usize
     ensures { λ r. ⌜ buffer (now (out .exit)) r ≡ put (buffer (now (out .entry)) at) (longText long) ⌝ }
 {
     let next = put_bytes(out, at, b"OK longs=");

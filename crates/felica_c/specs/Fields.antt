@@ -35,7 +35,7 @@ abbrev pub refusalCode : Refusal → ℕ
 refusalCode (Number n) = 0
 refusalCode (OfCommand n code) = code
 
--- what is told of a refusal; nothing of a command
+-- what is told of a refusal; a command is not asked for
 abbrev pub refusedAnswer : Answer → FelicaAnswer
 refusedAnswer (AnswerRefused why) = answer (refusal why) (refusalCode why) 0
 refusedAnswer (AnswerCommand kind) = answer 0 0 0

@@ -36,6 +36,7 @@ pub fn tell(
     }
 }
 
+// What is told of a refusal. A command is not asked for here.
 fn refused(answer: Answer) -> FelicaAnswer
     ensures { λ r. ⌜ r ≡ refusedAnswer answer ⌝ }
 {

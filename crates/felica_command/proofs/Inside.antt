@@ -10,7 +10,7 @@ use lib.Seq.{drop-drop, length-take-le}
 use lib.Dec.{ltb}
 use borrow.Author.Tests.{ltb-false}
 use Rattle.felica_format.specs.Basic.{Step, taken, refuse, bind, refuseIf}
-use Rattle.felica_format.specs.Command.{Command, Element, Formed, EndFields}
+use Rattle.felica_format.specs.Command.{Element, Formed, EndFields}
 use Rattle.felica_format.specs.Layout.{Selector, noSelector, typeByte, anyByte, Codes, noCodes, _to_, Ending, bytes, word, words, reserved, polling, parameter}
 use Rattle.felica_format.specs.Layout.{Behind, nothing, ignoredBytes, aPackage, Layout, layoutOf, classOf}
 use Rattle.felica_format.specs.Read.{Counted, readBytes, readIdm, readSelector, readCount, wordsOf, readWords, readCodes, readShort, readLong, readElement, readEach}

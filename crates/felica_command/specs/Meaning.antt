@@ -154,7 +154,7 @@ answerIs s idm challenge long (AnswerRefused why) = refusalIs why
 abbrev pub meaning : List ℕ → Parsed → Reading
 meaning s r = answerIs s (r .idm) (r .challenge) (r .long) (r .answer)
 
--- What `meaning` leaves open is pinned: a property is the one of its number, so that `Unknown` never holds 0 or 1, and beside a refusal the arrays are zero.
+-- What `meaning` leaves open is pinned: a property is the one of its number, so that `Unknown` never holds 0 or 1, and beside a refusal the arrays and the count of long elements are zero.
 abbrev pub CanonicalAnswer : List ℕ → List ℕ → ℕ → Answer → Type 0
 CanonicalAnswer idm challenge long (AnswerCommand kind) = fieldsOf kind .property ≡ propertyOf (propertyIndex (fieldsOf kind .property))
 CanonicalAnswer idm challenge long (AnswerRefused why) = (idm ≡ zeros 8) × (challenge ≡ zeros 16) × (long ≡ 0)

@@ -9,14 +9,14 @@ use mathlib.Core.List.{List, [], _∷_, _++_, append-assoc, append-nil}
 use lib.Dec.{ltb, leb}
 use lib.ListN.{length, getD, drop, length-append, length-drop}
 use borrow.Author.Tests.{ltb-true, ltb-false, leb-true, leb-false, lt-ltb, le-ltb}
-use Rattle.felica_format.specs.Basic.{Step, taken, refuse, bind, refuseIf, wordOf}
+use Rattle.felica_format.specs.Basic.{Step, taken, refuse, bind, wordOf}
 use Rattle.felica_format.specs.Command.{Formed, longCount}
 use Rattle.felica_format.specs.Read.{elementOf, formed, readCount, readElement, readEach, readLong, readShort}
 use Rattle.felica_format.proofs.Elements.{long-few}
 use Rattle.felica_format.proofs.Steps.{none-taken, taken-value, refuseIf-passed, refuseIf-taken}
 use Rattle.felica_format.proofs.Tests.{or-none}
 use Rattle.felica_command.specs.Places.{elementSize, elementsSize}
-use Rattle.felica_cursor.proofs.Laws.{at-front, at-front-2, at-front-3, long-cut, short-cut, size-more, size-done}
+use Rattle.felica_cursor.proofs.Laws.{at-front, at-front-2, at-front-3, long-cut, size-more, size-done}
 
 -- what a count that was taken says
 pub count-taken : (missing outside least greatest : ℕ) (l : List ℕ) (n : ℕ) (r : List ℕ) → readCount missing outside least greatest l ≡ taken n r

@@ -11,7 +11,7 @@ use lib.Dec.{ltb, leb}
 use lib.ListN.{length, getD, drop, length-drop, set, length-replicate, replicate-append-replicate}
 use lib.Seq.{drop-cons, drop-drop, paste, paste-suc, getD-drop, drop-at}
 use borrow.Author.Tests.{ltb-false, leb-true, leb-false, lt-ltb, le-ltb, ne-eqb}
-use Rattle.felica_format.specs.Basic.{Step, taken, refuse, bind, refuseIf, zeros, wordOf, wordAt, _and_}
+use Rattle.felica_format.specs.Basic.{Step, taken, refuse, refuseIf, zeros, wordOf, wordAt, _and_}
 use Rattle.felica_format.specs.Command.{endFields, noFields}
 use Rattle.felica_format.specs.Layout.{Ending, bare, polling, nothing}
 use Rattle.felica_format.specs.Read.{wordsOf, readLong, readShort, readEnding, readValues, sizeOf, zeroAt, isTimeSlots}

@@ -235,7 +235,7 @@ impl Cursor {
         )
     }
 
-    // Bit 7 set: one byte of block number follows. Bit 7 clear: two bytes.
+    // Bit 7 set: one byte of block number follows. Bit 7 clear: two bytes. The answer tells which it was.
     pub fn take_element(self, payload: &[u8]) -> ElementTaken
         ensures { λ r. ⌜ (readElement (drop (self .at) (now (payload .entry))) ≡ elementTaken (now (payload .entry)) r) × ElementPlaced (now (payload .entry)) (self .at) r ⌝ }
     {
@@ -260,17 +260,17 @@ impl Cursor {
     }
 
     // The elements behind their count. An element has two bytes at least, so the walk goes on while two are left; a long one may then lack its third. `taken` is the
-    // place of the last byte taken, which such an element takes to the payload's end.
+    // place of the last byte taken; behind such an element it is the payload's length.
     fn take_elements(self, payload: &[u8], count: u8) -> BlocksTaken
         requires { ⌜ (0 < count) × (0 < self .at) × (self .at ≤ length (now payload)) ⌝ }
         ensures { λ r. ⌜ (readEach count (drop (self .at) (now (payload .entry))) ≡ elementsTaken (now (payload .entry)) r) × ElementsPlaced (now (payload .entry)) (self .at) r ⌝ }
     {
         let start = self.at;
-        let last = before_two(payload);
+        let limit = before_two(payload);
         let mut taken = start - 1;
         let mut left = count;
         while 0 < left {
-            if last <= taken {
+            if limit <= taken {
                 return BlocksTaken::Refused(cut_off(payload, taken));
             }
             taken += element_size(payload[taken + 1]);
@@ -349,7 +349,11 @@ impl Cursor {
 fn before_two(payload: &[u8]) -> usize
     ensures { λ r. ⌜ r ≡ length (now (payload .entry)) - 2 ⌝ }
 {
-    if payload.len() < 2 { 0 } else { payload.len() - 2 }
+    if payload.len() < 2 {
+        0
+    } else {
+        payload.len() - 2
+    }
 }
 
 // The bytes of an element, by its first.
@@ -359,7 +363,7 @@ fn element_size(header: u8) -> usize
     3 - (header >> 7) as usize
 }
 
-// Why no element is whole behind a place with fewer than two bytes behind it. The payload's end is taken only by a long element that lacks its third byte.
+// Why no element is whole behind a place with fewer than two bytes behind it. Only a long element that lacks its third byte takes the place to the payload's length.
 fn cut_off(payload: &[u8], taken: usize) -> u8
     ensures { λ r. ⌜ (length (now (payload .entry)) ≤ taken → r ≡ 16) × (taken < length (now (payload .entry)) → length (now (payload .entry)) < taken + 3 → readElement (drop (taken + 1) (now (payload .entry))) ≡ refuse r) ⌝ }
 {

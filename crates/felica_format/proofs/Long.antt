@@ -17,9 +17,11 @@ form-told e rest ok = (λ small. short-back e ok small rest, long-back e ok rest
 pub counts-differ : CountsDiffer
 unfolding _and_ bind refuseIf readFrame readPayload readBody readIdm readSelector readCodes readCount readWords wordsOf readElements readEach readElement readShort readLong readData readEnding readValues readPackage classOf layoutOf has layoutIn plainRows secureRows
 counts-differ = (
-      commandOf 0x06 I8 0 (0x100B ∷ []) [] oneElement [] noFields [],
-      0x10 ∷ 0x06 ∷ (I8 ++ (0x01 ∷ 0x0B ∷ 0x10 ∷ 0x01 ∷ 0x80 ∷ 0x05 ∷ [])),
-      0x11 ∷ 0x06 ∷ (I8 ++ (0x01 ∷ 0x0B ∷ 0x10 ∷ 0x01 ∷ 0x00 ∷ 0x05 ∷ 0x00 ∷ [])),
-      refl,
-      refl,
-    )
+  commandOf 0x06 I8 0 (0x100B ∷ []) [] oneElement [] noFields [],
+  0x10 ∷ 0x06 ∷ (I8 ++ (0x01 ∷ 0x0B ∷ 0x10 ∷ 0x01 ∷ 0x80 ∷ 0x05 ∷ [])),
+  0x11 ∷ 0x06 ∷ (I8 ++ (0x01 ∷ 0x0B ∷ 0x10 ∷ 0x01 ∷ 0x00 ∷ 0x05 ∷ 0x00 ∷ [])),
+  refl,
+  refl,
+  refl,
+  refl,
+)

@@ -10,7 +10,6 @@ use lib.ListN.{length, getD, drop, drop-of-length-le}
 use lib.Dec.{ltb}
 use borrow.Author.Tests.{ltb-true, ltb-false, not-false, le-ltb}
 use Rattle.felica_format.specs.Basic.{_and_, isOneOf, taken, bind, refuseIf}
-use Rattle.felica_format.specs.Command.{Command}
 use Rattle.felica_format.specs.Layout.{plainRows, has, classOf, layoutIn, layoutOf, polling, nothing}
 use Rattle.felica_format.specs.Read.{isTimeSlots, readIdm, readSelector, readCodes, readElements, readData, readValues, readEnding, readPackage, readBody}
 use Rattle.felica_format.specs.Read.{Counted, counted, gives, readPayload, readFrame}

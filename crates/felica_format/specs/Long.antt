@@ -4,12 +4,12 @@
 use Prim.Native.Nat.{ℕ, _≤_, _<_}
 use mathlib.Core.Path.{_≡_}
 use mathlib.Core.Bool.{true, false}
-use mathlib.Core.List.{List, [], _∷_, _++_}
+use mathlib.Core.List.{List, _∷_, _++_}
 use lib.ListN.{length}
 use Rattle.felica_format.specs.Basic.{Bytes, taken}
 use Rattle.felica_format.specs.Command.{Command, Element, elementsOf}
 use Rattle.felica_format.specs.Layout.{layoutOf}
-use Rattle.felica_format.specs.Read.{formed, readElement, gives, readPayload, readFrame, readSecure}
+use Rattle.felica_format.specs.Read.{readElement, gives, readPayload, readFrame, readSecure}
 use Rattle.felica_format.specs.Write.{Forms, shortBytes, longBytes, longIn, bodyBytes, frameOf, secureOf}
 use Rattle.felica_format.specs.Writable.{elementOk}
 use Rattle.felica_format.specs.Demand3.{HasFrame, HasPayload, MayFollow}
@@ -18,7 +18,8 @@ use Rattle.felica_format.specs.Demand3.{HasFrame, HasPayload, MayFollow}
 abbrev pub FormTold : Type 0
 FormTold =
     (e : Element) (rest : List ℕ) → elementOk e ≡ true
-    → (e .number < 256 → readElement (shortBytes e ++ rest) ≡ taken (formed false e) rest) × (readElement (longBytes e ++ rest) ≡ taken (formed true e) rest)
+    → (e .number < 256 → readElement (shortBytes e ++ rest) ≡ taken (record { element = e; long = false }) rest)
+    × (readElement (longBytes e ++ rest) ≡ taken (record { element = e; long = true }) rest)
 
 -- "Everything above it passes on how many were long": with its command, a choice of forms gives how many elements it makes long. Demand 3 says that every
 -- accepted frame and secure payload is such a choice.
@@ -41,4 +42,4 @@ PlainLongCounted =
 
 -- "Two frames of one command may now differ in that count, while the command itself compares as before."
 abbrev pub CountsDiffer : Type 0
-CountsDiffer = (c : Command) × (s : List ℕ) × (t : List ℕ) × (readFrame s ≡ gives c 0) × (readFrame t ≡ gives c 1)
+CountsDiffer = (c : Command) × (s : List ℕ) × (t : List ℕ) × Bytes s × Bytes t × (readFrame s ≡ gives c 0) × (readFrame t ≡ gives c 1)

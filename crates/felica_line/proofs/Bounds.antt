@@ -17,7 +17,7 @@ use Rattle.felica_format.specs.Command.{Command, Element, Formed, longCount}
 use Rattle.felica_format.specs.Layout.{Codes, noCodes, _to_, Layout, classOf, layoutOf, boundsOf}
 use Rattle.felica_format.specs.Read.{readCount, readWords, readCodes, readEach, readElements, readBody, Counted, Answer as Reading, gives, refused}
 use Rattle.felica_format.specs.Read.{answerOf, readPlainAs, readPayload, readFrame}
-use Rattle.felica_format.proofs.Steps.{taken-value, none-taken, refuseIf-passed, refuseIf-taken, not-given, given-is}
+use Rattle.felica_format.proofs.Steps.{taken-value, none-taken, refuseIf-passed, refuseIf-taken, not-given}
 use Rattle.felica_format.proofs.Tests.{or-none}
 use Rattle.felica_format.proofs.Elements.{long-few}
 use Rattle.felica_format.proofs.Rows.{few-codes}

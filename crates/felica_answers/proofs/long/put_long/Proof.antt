@@ -9,8 +9,8 @@ use Rattle.felica_answers.proofs.long.put_long.Tie as tie
 enum-told : tie.Need-enum-told
 enum-told c = search needs
 
-put-longs-requires : tie.Need-put-longs-requires
-put-longs-requires c κs = search needs
+put-count-requires : tie.Need-put-count-requires
+put-count-requires c κs = search needs
 
 enum-known-answer : tie.Need-enum-known-answer
 enum-known-answer c = search needs
@@ -22,7 +22,7 @@ same-length : tie.Need-same-length
 same-length c = search needs
 
 returns : tie.Need-returns
-returns c = λ s. put-same _ _ _ (c .before .before .put-longs .ensures) (command-longs s _ (c .before .before .before .before .enum-told .given .1))
+returns c = λ s. put-same _ _ _ (c .before .before .put-count .ensures) (command-longs s _ (c .before .before .before .before .enum-told .given .1))
 
 same-length-2 : tie.Need-same-length-2
 same-length-2 c = search needs
@@ -35,7 +35,7 @@ put-long-spec =
     tie.close
     (tie.spec
     enum-told
-    put-longs-requires
+    put-count-requires
     enum-known-answer
     put-refusal-requires
     same-length

@@ -7,8 +7,7 @@ use mathlib.Core.Path.{_≡_, refl, sym, ap, _∙_}
 use mathlib.Core.List.{List}
 use denote.Ref.{now}
 use lib.ListN.{length, drop, length-drop}
-use Rattle.felica_format.specs.Basic.{Step, refuse}
-use Rattle.felica_format.specs.Command.{Formed}
+use Rattle.felica_format.specs.Basic.{refuse}
 use Rattle.felica_format.specs.Read.{readElement}
 use Rattle.felica_cursor.specs.Answers.{elementGround}
 use Rattle.felica_cursor.specs.Steps.{elementTaken}

@@ -1,7 +1,7 @@
 -- `Cursor::take_elements` meets its contract: the walk takes whole elements, or stands one behind the payload's end, behind a long one that lacks its third byte.
 -- Assumes nothing.
 use borrow.Author.Needs.{needs}
-use mathlib.Core.Path.{_≡_, refl, sym, ap, _∙_, subst}
+use mathlib.Core.Path.{_≡_, refl, subst}
 use Prim.Native.Nat.{ℕ, _+_, _-_, _*_, _≤_, _<_, suc}
 use native.Mathlib.Omega.{arith}
 use denote.Ref.{now}
@@ -14,10 +14,10 @@ use Rattle.felica_cursor.proofs.cursor.Cursor.take_elements.Statement.{
 use Rattle.felica_cursor.proofs.cursor.Cursor.take_elements.Tie as tie
 
 abbrev Inv-loop : tie.InvT-loop
-Inv-loop payload count start last taken₀ left₀ taken left = Walk payload start count (taken + 1) left
+Inv-loop payload count start limit taken₀ left₀ taken left = Walk payload start count (taken + 1) left
 
 abbrev μ-loop : tie.MeasureT-loop
-μ-loop payload count start last taken₀ left₀ taken left = left
+μ-loop payload count start limit taken₀ left₀ taken left = left
 
 before-two-requires : tie.Need-before-two-requires Inv-loop μ-loop
 before-two-requires c κs = search needs
@@ -42,7 +42,7 @@ returns c =
     let more : loop .left ≡ suc (loop .left - 1) = omega arith in
     let few : length s < loop .taken + 1 + 2 = omega arith in (
       walk-cut s (args .self .at) (args .count) (loop .taken + 1) (loop .left) (loop .left - 1) more (c .cut-off .result) few
-      (λ beyond. c .cut-off .ensures .0 (omega arith)) (λ inside. c .cut-off .ensures .1 (omega arith) (omega arith)) (loop .inv),
+          (λ beyond. c .cut-off .ensures .0 (omega arith)) (λ inside. c .cut-off .ensures .1 (omega arith) (omega arith)) (loop .inv),
       tt,
     )
 
