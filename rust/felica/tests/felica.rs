@@ -23,7 +23,7 @@ fn part(start: usize, count: usize) -> Part {
 }
 
 /// A command with so many long elements.
-fn with_long(long: u8, command: Command) -> Result<Parsed, Refusal> {
+fn with_long(long: u16, command: Command) -> Result<Parsed, Refusal> {
     Ok(Parsed { command, long })
 }
 
