@@ -1,4 +1,5 @@
 // Answers calls: reads them on standard input, a line each, and writes a line for each to standard output.
+#![tactic(auto)]
 ghost use Rattle.std.specs.Prelude.{◌≤◌, length};
 ghost use Rattle.felica_put.specs.Put.{buffer};
 ghost use Rattle.felica_calls.specs.Call.{readCall};
@@ -26,7 +27,7 @@ const MAX_CALL_BYTES: usize = 16384;
 const ANSWER_ROOM: usize = 33024;
 
 // How much is held of the input and how much of the output waits to be written, and whether a write failed.
-#[derive(Drop)]
+#[derive(Clone, Copy)]
 struct State {
     held: usize,
     waiting: usize,

@@ -1,4 +1,5 @@
 // The parser for C: a payload. include/felica.h says what it promises in words.
+#![tactic(auto)]
 ghost use Rattle.std.specs.Prelude.{◌≡◌};
 ghost use Rattle.felica_format.specs.Read.{readPayload};
 ghost use Rattle.felica_c.specs.Boundary.{lent, told, telling};

@@ -11,7 +11,7 @@ use felica_text::find::find;
 use felica_text::hex::{Digit, digit_value};
 
 // How many there are, or what is wrong with them.
-#[derive(Drop)]
+#[derive(Clone, Copy)]
 pub(crate) enum Bytes {
     Count(usize),
     Wrong(Fault),

@@ -15,7 +15,7 @@ use crate::source::{Source, SourceRead, behind_source, read_source};
 use crate::write::read_write;
 
 // What a line calls for, or what is wrong with it.
-#[derive(Drop)]
+#[derive(Clone, Copy)]
 pub enum Call {
     // To parse so many bytes.
     Parse(Source, usize),

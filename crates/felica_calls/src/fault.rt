@@ -5,7 +5,7 @@ ghost use Rattle.felica_calls.specs.Fault.{faultText};
 
 use felica_put::put_bytes;
 
-#[derive(Drop)]
+#[derive(Clone, Copy)]
 pub enum Fault {
     EmptyLine,
     LineTooLong,

@@ -4,7 +4,7 @@ ghost use Rattle.felica_calls.specs.Number.{allDecimal, numberFault, readNumber}
 
 use crate::fault::Fault;
 
-#[derive(Drop)]
+#[derive(Clone, Copy)]
 pub(crate) enum Number {
     Number(usize),
     Wrong(Fault),

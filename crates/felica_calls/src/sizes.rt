@@ -12,7 +12,7 @@ use crate::number::{Number, read_number};
 pub const MAX_LENT: usize = 1024;
 
 // The lengths of the five buffers that are lent.
-#[derive(Drop)]
+#[derive(Clone, Copy)]
 pub struct Sizes {
     pub first: usize,
     pub second: usize,
@@ -21,7 +21,7 @@ pub struct Sizes {
     pub modes: usize,
 }
 
-#[derive(Drop)]
+#[derive(Clone, Copy)]
 pub(crate) enum SizesRead {
     Sizes(Sizes),
     Wrong(Fault),

@@ -7,7 +7,7 @@ use crate::bytes::{all_digits, byte_of};
 use crate::fault::Fault;
 use crate::field::{behind_field, behind_next, field_of, is_byte, next_field};
 
-#[derive(Drop)]
+#[derive(Clone, Copy)]
 pub enum Source {
     Frame,
     Payload,
@@ -15,13 +15,13 @@ pub enum Source {
     Secure(u8),
 }
 
-#[derive(Drop)]
+#[derive(Clone, Copy)]
 pub(crate) enum SourceRead {
     Source(Source),
     Wrong(Fault),
 }
 
-#[derive(Drop)]
+#[derive(Clone, Copy)]
 pub(crate) enum Code {
     Code(u8),
     Wrong(Fault),

@@ -11,14 +11,14 @@ use felica_format::constants as codes;
 
 // A list, the data or the package, named as a part of the payload: the place of its first byte, counted from the payload's first, and
 // how many entries it has (bytes, of data and package).
-#[derive(Drop)]
+#[derive(Clone, Copy)]
 pub struct Part {
     pub start: usize,
     pub count: usize,
 }
 
 // The variants and fields of the Rust, in its order. IDm, challenges, issue id and issue parameter stand beside the command, in `Parsed`.
-#[derive(Drop)]
+#[derive(Clone, Copy)]
 pub enum FelicaStandardCommand {
     Polling {
         system_code: u16,
@@ -158,20 +158,20 @@ impl FelicaStandardCommand {
 }
 
 // The number of document 01's table and, from 4 up, the command code.
-#[derive(Drop)]
+#[derive(Clone, Copy)]
 pub enum Refusal {
     Number(u8),
     OfCommand(u8, u8),
 }
 
-#[derive(Drop)]
+#[derive(Clone, Copy)]
 pub enum Answer {
     Command(FelicaStandardCommand),
     Refused(Refusal),
 }
 
 // The answer, with the arrays of the command and how many elements were long beside it. They are zero where the command lacks them and beside every refusal.
-#[derive(Drop)]
+#[derive(Clone, Copy)]
 pub struct Parsed {
     pub answer: Answer,
     pub idm: [u8; 8],

@@ -6,7 +6,7 @@ ghost use Rattle.felica_command.specs.Lists.{lists, listsIn};
 use crate::command::{FelicaStandardCommand, Part};
 
 // A list that the command lacks is the part of no entries at 0.
-#[derive(Drop)]
+#[derive(Clone, Copy)]
 pub struct Lists {
     // The code list; of Authentication1 the areas.
     pub first_codes: Part,

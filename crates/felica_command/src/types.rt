@@ -3,17 +3,17 @@ ghost use Rattle.std.specs.Prelude.{◌≡◌};
 ghost use Rattle.felica_command.specs.Types.{propertyOf, propertyIndex, nodePropertyTypeOf, nodePropertyByte};
 ghost use Rattle.felica_command.specs.Types.{encryptionTypeOf, encryptionByte, packetTypeOf, packetByte};
 
-#[derive(Drop)]
+#[derive(Clone, Copy)]
 pub struct ServiceCode(pub u16);
 
 // The code of a system, an area or a service.
-#[derive(Drop)]
+#[derive(Clone, Copy)]
 pub struct NodeCode(pub u16);
 
-#[derive(Drop)]
+#[derive(Clone, Copy)]
 pub struct BlockNumber(pub u16);
 
-#[derive(Drop)]
+#[derive(Clone, Copy)]
 pub struct BlockListElement {
     pub block_number_or_key_version: BlockNumber,
     // The place in the command's service code list, counted from 0.
@@ -21,7 +21,7 @@ pub struct BlockListElement {
     pub access_mode: u8,
 }
 
-#[derive(Drop)]
+#[derive(Clone, Copy)]
 pub enum ContainerProperty {
     Property1,
     Property2,
@@ -51,13 +51,13 @@ impl ContainerProperty {
     }
 }
 
-#[derive(Drop)]
+#[derive(Clone, Copy)]
 pub enum NodePropertyType {
     ValueLimitedPurseService,
     MacCommunication,
 }
 
-#[derive(Drop)]
+#[derive(Clone, Copy)]
 pub enum NodePropertyByte {
     Defined(NodePropertyType),
     Undefined,
@@ -84,13 +84,13 @@ impl NodePropertyType {
     }
 }
 
-#[derive(Drop)]
+#[derive(Clone, Copy)]
 pub enum SetParameterEncryptionType {
     SrmType1,
     SrmType2,
 }
 
-#[derive(Drop)]
+#[derive(Clone, Copy)]
 pub enum EncryptionByte {
     Defined(SetParameterEncryptionType),
     Undefined,
@@ -117,13 +117,13 @@ impl SetParameterEncryptionType {
     }
 }
 
-#[derive(Drop)]
+#[derive(Clone, Copy)]
 pub enum SetParameterPacketType {
     NodeCodeSize2,
     NodeCodeSize4,
 }
 
-#[derive(Drop)]
+#[derive(Clone, Copy)]
 pub enum PacketByte {
     Defined(SetParameterPacketType),
     Undefined,

@@ -9,78 +9,78 @@ use felica_command::types::{
     BlockListElement, NodePropertyType, SetParameterEncryptionType, SetParameterPacketType,
 };
 
-#[derive(Drop)]
+#[derive(Clone, Copy)]
 pub enum Moved {
     On(Cursor),
     Refused(u8),
 }
 
 // The IDm stands beside its step, and is zero where that refuses.
-#[derive(Drop)]
+#[derive(Clone, Copy)]
 pub struct IdmTaken {
     pub step: Moved,
     pub idm: [u8; 8],
 }
 
 // A challenge of 8 bytes has eight zeros behind it.
-#[derive(Drop)]
+#[derive(Clone, Copy)]
 pub struct ChallengeTaken {
     pub step: Moved,
     pub challenge: [u8; 16],
 }
 
-#[derive(Drop)]
+#[derive(Clone, Copy)]
 pub enum ByteTaken {
     Byte(u8, Cursor),
     Refused(u8),
 }
 
-#[derive(Drop)]
+#[derive(Clone, Copy)]
 pub enum ListTaken {
     List(Part, Cursor),
     Refused(u8),
 }
 
 // An element, and whether its form was the long one.
-#[derive(Drop)]
+#[derive(Clone, Copy)]
 pub enum ElementTaken {
     Element(BlockListElement, bool, Cursor),
     Refused(u8),
 }
 
 // A block list, and how many of its elements were long.
-#[derive(Drop)]
+#[derive(Clone, Copy)]
 pub enum BlocksTaken {
     Blocks(Part, u8, Cursor),
     Refused(u8),
 }
 
-#[derive(Drop)]
+#[derive(Clone, Copy)]
 pub enum PropertyTypeTaken {
     Property(NodePropertyType, Cursor),
     Refused(u8),
 }
 
-#[derive(Drop)]
+#[derive(Clone, Copy)]
 pub enum WordTaken {
     Word(u16, Cursor),
     Refused(u8),
 }
 
-#[derive(Drop)]
+#[derive(Clone, Copy)]
 pub enum WordsTaken {
     Words(u16, u16, Cursor),
     Refused(u8),
 }
 
 // System code, request code, time slots.
-#[derive(Drop)]
+#[derive(Clone, Copy)]
 pub enum PollingTaken {
     Parameters(u16, u8, u8, Cursor),
     Refused(u8),
 }
 
-#[derive(Drop)]
+#[derive(Clone, Copy)]
 pub enum ParameterTaken {
     Types(SetParameterEncryptionType, SetParameterPacketType, Cursor),
     Refused(u8),

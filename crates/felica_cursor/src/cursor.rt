@@ -18,7 +18,7 @@ use felica_command::types::{BlockListElement, BlockNumber, NodePropertyByte, Nod
 use felica_format::constants::bounds_at;
 use felica_format::{constants, error};
 
-#[derive(Drop)]
+#[derive(Clone, Copy)]
 pub struct Cursor {
     pub at: usize,
 }

@@ -1,4 +1,5 @@
 // One entry of a part, in its wrapper. A part may be any two numbers: an entry that does not stand inside the payload is none.
+#![tactic(auto)]
 ghost use Rattle.std.specs.Prelude.{◌≡◌};
 ghost use Rattle.felica_entries.specs.Entries.{codeEntry, elementEntry, wordFound, serviceCodeFound, nodeCodeFound, blockFound};
 
@@ -7,26 +8,26 @@ use felica_command::types::{BlockListElement, NodeCode, ServiceCode};
 use felica_cursor::answers::ElementTaken;
 use felica_cursor::cursor::{Cursor, word_of};
 
-#[derive(Drop)]
+#[derive(Clone, Copy)]
 pub enum ServiceCodeAt {
     Code(ServiceCode),
     None,
 }
 
-#[derive(Drop)]
+#[derive(Clone, Copy)]
 pub enum NodeCodeAt {
     Code(NodeCode),
     None,
 }
 
 // An element, and whether its form was the long one.
-#[derive(Drop)]
+#[derive(Clone, Copy)]
 pub enum BlockAt {
     Element(BlockListElement, bool),
     None,
 }
 
-#[derive(Drop)]
+#[derive(Clone, Copy)]
 enum WordEntry {
     Word(u16),
     None,

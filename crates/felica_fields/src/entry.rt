@@ -5,7 +5,7 @@ ghost use Rattle.felica_fields.specs.Entries.{read_code, codeRead};
 use felica_cursor::cursor::word_of;
 
 // A code with the place behind it, or that the payload has none there.
-#[derive(Drop)]
+#[derive(Clone, Copy)]
 pub(crate) enum CodeRead {
     Code(u16, usize),
     None,

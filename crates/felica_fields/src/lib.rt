@@ -1,4 +1,5 @@
 // The fields of an answer and the text of a refusal, put into a lent buffer.
+#![tactic(auto)]
 mod entry;
 pub mod field;
 mod list;

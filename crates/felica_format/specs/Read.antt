@@ -13,7 +13,7 @@ use Rattle.felica_format.specs.Layout.{polling, parameter, Behind, nothing, igno
 
 -- n bytes, or the ground where they are not whole
 abbrev pub readBytes : ℕ → ℕ → List ℕ → Step (List ℕ)
-readBytes n ground s = refuseIf (ltb (length s) n) ground (taken (take n s) (drop n s))
+readBytes n number s = refuseIf (ltb (length s) n) number (taken (take n s) (drop n s))
 
 -- 6: IDm missing
 unfoldable pub readIdm : Bool → List ℕ → Step (List ℕ)

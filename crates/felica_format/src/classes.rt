@@ -3,7 +3,7 @@ ghost use Rattle.std.specs.Prelude.{◌≡◌};
 ghost use Rattle.felica_format.specs.Layout.{class_of};
 
 // Plain commands are sent as frames; the payload of a secure one is encrypted.
-#[derive(Drop)]
+#[derive(Clone, Copy)]
 pub enum Class {
     Plain,
     Secure,

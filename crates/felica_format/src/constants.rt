@@ -91,7 +91,7 @@ pub const REGISTER_SERVICE_COMMAND_CODE: u8 = 0x84;
 pub const CHANGE_SYSTEM_BLOCK_COMMAND_CODE: u8 = 0x8E;
 
 // The least and the greatest count of a list of codes.
-#[derive(Drop)]
+#[derive(Clone, Copy)]
 pub struct Bounds {
     pub least: u8,
     pub greatest: u8,

@@ -1,4 +1,5 @@
 // The port of parse_frame of command/parse.rs.
+#![tactic(auto)]
 ghost use Rattle.std.specs.Prelude.{◌≡◌, drop};
 ghost use Rattle.felica_format.specs.Read.{readFrame};
 ghost use Rattle.felica_command.specs.Meaning.{meaning, Canonical};

@@ -1,4 +1,5 @@
 // The layout of each command: one order of parts, each there or not, as specs/Layout.antt of felica_format has it in document 01's words.
+#![tactic(auto)]
 ghost use Rattle.std.specs.Prelude.{◌≡◌, true, false};
 ghost use Rattle.felica_format.specs.Layout.{layout, noSelector, noCodes, ◌to◌, bytes, bare, nothing, ends, has, plainRows};
 ghost use Rattle.felica_format.specs.declared.classes.Class.TheVariants.{Plain, Secure, Unknown};
@@ -9,7 +10,7 @@ use felica_format::constants;
 use felica_format::constants::{Bounds, NODE_PROPERTY_CODES, SERVICE_CODES};
 
 // The byte in front of a code list.
-#[derive(Drop)]
+#[derive(Clone, Copy)]
 pub enum Selector {
     NoSelector,
     // 28: 00 or 01.
@@ -19,14 +20,14 @@ pub enum Selector {
 }
 
 // A list of codes behind its count.
-#[derive(Drop)]
+#[derive(Clone, Copy)]
 pub enum Codes {
     NoCodes,
     Counted(Bounds),
 }
 
 // The fixed bytes that end a body.
-#[derive(Drop)]
+#[derive(Clone, Copy)]
 pub enum Ending {
     // So many bytes of the challenge; 0 where there are no fixed bytes.
     Bytes(usize),
@@ -43,7 +44,7 @@ pub enum Ending {
 }
 
 // What may stand behind them.
-#[derive(Drop)]
+#[derive(Clone, Copy)]
 pub enum Behind {
     Nothing,
     // Any bytes, which are no part of the command.
@@ -52,7 +53,7 @@ pub enum Behind {
 }
 
 // The parts in their order.
-#[derive(Drop)]
+#[derive(Clone, Copy)]
 pub struct Layout {
     pub idm: bool,
     pub selector: Selector,
@@ -65,7 +66,7 @@ pub struct Layout {
 }
 
 // The class of a code, and its layout; an unknown code has no bytes.
-#[derive(Drop)]
+#[derive(Clone, Copy)]
 pub struct Row {
     pub class: Class,
     pub layout: Layout,

@@ -1,4 +1,5 @@
 // The line of one frame in a listing, put into a lent buffer as felica_put puts bytes.
+#![tactic(auto)]
 ghost use Rattle.std.specs.Prelude.{◌≡◌};
 ghost use Rattle.felica_format.specs.Read.{readFrame};
 ghost use Rattle.felica_command.specs.Meaning.{meaning};
@@ -16,7 +17,7 @@ use felica_put::put_byte;
 use felica_text::put::put_decimal;
 
 // The place behind the line, and what the frame counts for: whether it was accepted, and how many blocks it has then.
-#[derive(Drop)]
+#[derive(Clone, Copy)]
 pub struct FrameLine {
     pub next: usize,
     pub accepted: bool,

@@ -1,6 +1,7 @@
 // The list reader. It parses, then writes first codes, second codes, block numbers, service places and access modes to the front of five lent buffers. Where one
 // is shorter than its list, it gives 21 and writes nothing. In the contracts the buffer `places` has the elements' places in the service list; `places_of` and
 // `readPlaces` say where the parts of the result stand.
+#![tactic(auto)]
 ghost use Rattle.std.specs.Prelude.{◌≡◌, drop};
 ghost use Rattle.felica_format.specs.Read.{readFrame, readPayload, readSecure};
 ghost use Rattle.felica_command.specs.Meaning.{meaning, Canonical};

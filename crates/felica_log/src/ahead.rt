@@ -7,7 +7,7 @@ use felica_format::constants::MAX_BLOCK_COUNT;
 use felica_totals::Totals;
 
 // A record to be listed, by the size of its frame; or why there is none.
-#[derive(Drop)]
+#[derive(Clone, Copy)]
 pub(crate) enum Ahead {
     Frame(usize),
     Stop(Stop),

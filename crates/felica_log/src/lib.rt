@@ -1,4 +1,5 @@
 // Logs: a step over the whole records of a piece of a log, which lists them into a lent buffer, and the lines behind the last record.
+#![tactic(auto)]
 ghost use Rattle.std.specs.Prelude.{◌≡◌};
 ghost use Rattle.felica_log.specs.Step.{lacksRoom};
 
@@ -14,7 +15,7 @@ pub const LINE_ROOM: usize = 128;
 
 // Why a step stops: nothing of the piece is left; 1,000,000 records have been read, and a byte follows; the record is cut off; the buffer has less room than
 // `LINE_ROOM`; the totals have no room for a record of 255 blocks.
-#[derive(Drop)]
+#[derive(Clone, Copy)]
 pub enum Stop {
     AtEnd,
     AtLimit,

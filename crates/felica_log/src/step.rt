@@ -9,7 +9,7 @@ use felica_line::put_frame_line;
 use felica_totals::{Totals, after_record};
 
 // How far a step came: the bytes of the piece that are listed, the place behind the last line, the totals, and why it stopped.
-#[derive(Drop)]
+#[derive(Clone, Copy)]
 pub struct Progress {
     pub used: usize,
     pub next: usize,

@@ -7,7 +7,7 @@ use crate::names::place_in;
 use felica_calls::fault::Fault;
 use felica_text::find::find;
 
-#[derive(Drop)]
+#[derive(Clone, Copy)]
 pub enum Noted {
     Whole,
     Wrong(Fault),

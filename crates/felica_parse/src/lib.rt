@@ -1,4 +1,5 @@
 // The port of command/parse.rs: a payload. Frames are felica_frame's, secure codes felica_secure's.
+#![tactic(auto)]
 ghost use Rattle.std.specs.Prelude.{◌≡◌, List, ℕ, drop};
 ghost use Rattle.felica_format.specs.Layout.{class_of};
 ghost use Rattle.felica_format.specs.Read.{readPayload, readPlainAs};

@@ -1,4 +1,5 @@
 // The port of parse_secure_payload of command/parse.rs: a secure code with its decrypted payload.
+#![tactic(auto)]
 ghost use Rattle.std.specs.Prelude.{◌≡◌};
 ghost use Rattle.felica_format.specs.Read.{readSecure};
 ghost use Rattle.felica_command.specs.Meaning.{meaning, Canonical};

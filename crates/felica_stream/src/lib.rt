@@ -1,19 +1,20 @@
 // A program's input and output in large pieces: input read behind what is still held, the rest of it moved to the front, and output written where room is
 // needed.
+#![tactic(auto)]
 ghost use Rattle.std.specs.Prelude.{◌≡◌, true, false, ◌+◌, ◌≤◌, ◌<◌, length, take};
 ghost use Rattle.felica_stream.specs.Held.{moved, stillWaiting};
 
 use libc::{STDIN_FILENO, STDOUT_FILENO};
 
 // How many bytes of the input are held, and whether the read failed.
-#[derive(Drop)]
+#[derive(Clone, Copy)]
 pub struct Input {
     pub held: usize,
     pub failed: bool,
 }
 
 // How many bytes of the output wait to be written, and whether a write failed.
-#[derive(Drop)]
+#[derive(Clone, Copy)]
 pub struct Output {
     pub waiting: usize,
     pub failed: bool,

@@ -3,7 +3,7 @@ ghost use Rattle.std.specs.Prelude.{◌≡◌, ◌%◌};
 ghost use Rattle.felica_text.specs.Text.{digitText, digitOf};
 
 // What a byte is as a digit.
-#[derive(Drop)]
+#[derive(Clone, Copy)]
 pub enum Digit {
     Value(u8),
     NoDigit,

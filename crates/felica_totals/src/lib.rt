@@ -1,8 +1,9 @@
 // The four running totals of a listing.
+#![tactic(auto)]
 ghost use Rattle.std.specs.Prelude.{◌≡◌};
 ghost use Rattle.felica_totals.specs.Count.{noTotals, hasRoom, countedWithin};
 
-#[derive(Drop)]
+#[derive(Clone, Copy)]
 pub struct Totals {
     pub records: usize,
     pub accepted: usize,

@@ -64,7 +64,7 @@ fn challenge_ok(challenge: [u8; 16], filled: usize) -> bool
 }
 
 // The greatest values of the fields that end a body, and how many bytes of the challenge it has. What it lacks is 0.
-#[derive(Drop)]
+#[derive(Clone, Copy)]
 struct Greatest {
     number: u16,
     index: u16,

@@ -12,7 +12,7 @@ use felica_put::put_byte;
 // Bytes in front of the body of a frame.
 const HEAD_LEN: usize = 2;
 
-#[derive(Drop)]
+#[derive(Clone, Copy)]
 pub(crate) enum Room {
     Enough,
     // By 22 where no frame is so long, by 21 where the buffer is too small.

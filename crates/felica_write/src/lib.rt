@@ -1,4 +1,5 @@
 // The writer: the frame of a plain command and the payload of a secure one, in its shortest form, at the front of a lent buffer.
+#![tactic(auto)]
 ghost use Rattle.std.specs.Prelude.{◌≡◌};
 ghost use Rattle.felica_command.specs.Handed.{handed};
 ghost use Rattle.felica_write.specs.Writing.{meaning, refusal, outcome, writing};
@@ -16,7 +17,7 @@ use felica_writable::body_ok;
 use head::{Room, put_head, room_for};
 use size::body_size;
 
-#[derive(Drop)]
+#[derive(Clone, Copy)]
 pub enum Written {
     // How many bytes stand at the front of the buffer.
     Length(usize),

@@ -1,4 +1,5 @@
 // Lists a log: reads it on standard input, and writes a line for each record to standard output.
+#![tactic(auto)]
 ghost use Rattle.std.specs.Prelude.{◌≡◌, ◌≤◌, ◌<◌, true, false, length, take};
 ghost use Rattle.felica_put.specs.Put.{buffer};
 ghost use Rattle.felica_log.specs.Step.{lineRoom, endText};
@@ -13,7 +14,7 @@ use felica_totals::Totals;
 use libc::{STDERR_FILENO, STDOUT_FILENO};
 
 // How much of the input is listed, how much of the output waits to be written, the totals, and whether a write failed.
-#[derive(Drop)]
+#[derive(Clone, Copy)]
 struct Listed {
     used: usize,
     waiting: usize,
@@ -35,7 +36,7 @@ impl Listed {
 }
 
 // How much of the input is held and how much of the output waits to be written, the totals, and whether a read or a write failed.
-#[derive(Drop)]
+#[derive(Clone, Copy)]
 struct State {
     held: usize,
     waiting: usize,
