@@ -10,13 +10,13 @@ value-of-requires : tie.Need-value-of-requires
 value-of-requires c κs = search rules
 
 mul-result : tie.Need-overflow-mul-result
-mul-result c = omega (arith, c.value_of_lem.ensures, value-small c.before.args.high)
+mul-result c = omega (arith, c.value_of.ensures, value-small c.before.args.high)
 
 value-of-requires-2 : tie.Need-value-of-requires-2
 value-of-requires-2 c κs = search rules
 
 add-result : tie.Need-overflow-add-result
-add-result c = omega (arith, c.before.value_of_lem.ensures, value-small c.before.before.args.high, c.value-of2.ensures, value-small c.before.before.args.low)
+add-result c = omega (arith, c.before.value_of.ensures, value-small c.before.before.args.high, c.value-of2.ensures, value-small c.before.before.args.low)
 
 returns : tie.Need-returns
 returns c = search rules

@@ -20,26 +20,26 @@ is-byte-requires c κs = search rules
 
 returns-2 : tie.Need-returns-2
 unfolding readBytes
-returns-2 c = rw (ne_eqb _ _ c.before.before.if1.false, sym c.before.is_byte_lem.ensures ∙ c.if2.true)
+returns-2 c = rw (ne_eqb _ _ c.before.before.if1.false, sym c.before.is_byte.ensures ∙ c.if2.true)
 
 all-digits-requires : tie.Need-all-digits-requires
 all-digits-requires c κs = search rules
 
 returns-3 : tie.Need-returns-3
 unfolding readBytes
-returns-3 c = rw (ne_eqb _ _ c.before.before.before.before.if1.false, sym c.before.before.before.is_byte_lem.ensures ∙ c.before.before.if2.false, sym c.before.all_digits.ensures ∙ not-true _ c.if3.true)
+returns-3 c = rw (ne_eqb _ _ c.before.before.before.before.if1.false, sym c.before.before.before.is_byte.ensures ∙ c.before.before.if2.false, sym c.before.all_digits.ensures ∙ not-true _ c.if3.true)
 
 returns-4 : tie.Need-returns-4
 unfolding readBytes
 returns-4 c = let odd : length c.before.before.before.before.before.before.before.before.args.field.now % 2 ≡ 1 = omega arith in
-    rw (ne_eqb _ _ c.before.before.before.before.before.if1.false, sym c.before.before.before.before.is_byte_lem.ensures ∙ c.before.before.before.if2.false, sym c.before.before.all_digits.ensures ∙ not-false _ c.before.if3.false, eq-eqb _ _ odd)
+    rw (ne_eqb _ _ c.before.before.before.before.before.if1.false, sym c.before.before.before.before.is_byte.ensures ∙ c.before.before.before.if2.false, sym c.before.before.all_digits.ensures ∙ not-false _ c.before.if3.false, eq-eqb _ _ odd)
 
 returns-5 : tie.Need-returns-5
 unfolding readBytes
 returns-5 c = let even : (length c.before.before.before.before.before.before.before.before.before.args.field.now % 2 ≡ 1 → ⊥) = c.before.if4.false in
     rw (
       ne_eqb _ _ c.before.before.before.before.before.before.if1.false,
-      sym c.before.before.before.before.before.is_byte_lem.ensures ∙ c.before.before.before.before.if2.false,
+      sym c.before.before.before.before.before.is_byte.ensures ∙ c.before.before.before.before.if2.false,
       sym c.before.before.before.all_digits.ensures ∙ not-false _ c.before.before.if3.false,
       ne_eqb _ _ even,
       lt-ltb _ _ c.if5.true,
@@ -56,7 +56,7 @@ unfolding readBytes
 returns-6 c = let even : (length c.before.before.before.before.before.before.before.before.before.before.before.before.before.args.field.now % 2 ≡ 1 → ⊥) = c.before.before.before.before.before.if4.false in
     rw (
       ne_eqb _ _ c.before.before.before.before.before.before.before.before.before.before.if1.false,
-      sym c.before.before.before.before.before.before.before.before.before.is_byte_lem.ensures ∙ c.before.before.before.before.before.before.before.before.if2.false,
+      sym c.before.before.before.before.before.before.before.before.before.is_byte.ensures ∙ c.before.before.before.before.before.before.before.before.if2.false,
       sym c.before.before.before.before.before.before.before.all_digits.ensures ∙ not-false _ c.before.before.before.before.before.before.if3.false,
       ne_eqb _ _ even,
       le-ltb _ _ c.before.before.before.before.if5.false,

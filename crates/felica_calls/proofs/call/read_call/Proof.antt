@@ -36,7 +36,7 @@ same_length : tie.Need-same-length
 same_length c = search rules
 
 returns-2 : tie.Need-returns-2
-returns-2 c = let name = ap (is_byte 76) (sym c.before.before.before.before.before.before.before.before.field_of.ensures) ∙ sym c.before.before.before.before.before.before.before.is_byte_lem.ensures ∙ c.before.before.before.before.before.before.if2.true in
+returns-2 c = let name = ap (is_byte 76) (sym c.before.before.before.before.before.before.before.before.field_of.ensures) ∙ sym c.before.before.before.before.before.before.before.is_byte.ensures ∙ c.before.before.before.before.before.before.if2.true in
     let text = c.before.before.before.before.behind-space.ensures ∙ ap (drop 1) c.before.before.before.before.before.behind-field.ensures in
     c.before.before.read-list.ensures ∙ ap (λ t. asked_of list_of (readSource t) t c.before.before.before.before.before.before.before.before.before.before.before.before.args.bytes.now) text ∙ sym (line-list _ _ c.before.before.before.before.before.before.before.before.before.if1.false name)
 
@@ -50,7 +50,7 @@ read-write-requires : tie.Need-read-write-requires
 read-write-requires c κs = search rules
 
 returns-3 : tie.Need-returns-3
-returns-3 c = let other = ap (is_byte 76) (sym c.before.before.before.before.before.before.field_of.ensures) ∙ sym c.before.before.before.before.before.is_byte_lem.ensures ∙ c.before.before.before.before.if2.false in
+returns-3 c = let other = ap (is_byte 76) (sym c.before.before.before.before.before.before.field_of.ensures) ∙ sym c.before.before.before.before.before.is_byte.ensures ∙ c.before.before.before.before.if2.false in
     let name = ap (is_byte 87) (sym c.before.before.before.before.before.before.field_of.ensures) ∙ sym c.before.before.before.is-byte2.ensures ∙ c.before.before.if3.true in
     ap (λ x. called x c.before.before.before.before.before.before.before.before.before.before.args.bytes.now) (c.read-write.ensures ∙ ap writeOf c.before.behind-field2.ensures) ∙ sym (line_write _ _ c.before.before.before.before.before.before.before.if1.false other name)
 
@@ -74,7 +74,7 @@ same-length-2 c = search rules
 
 returns-4 : tie.Need-returns-4
 returns-4 c =
-    let list = ap (is_byte 76) (sym c.before.before.before.before.before.before.before.before.before.before.before.before.before.field_of.ensures) ∙ sym c.before.before.before.before.before.before.before.before.before.before.before.before.is_byte_lem.ensures ∙ c.before.before.before.before.before.before.before.before.before.before.before.if2.false in
+    let list = ap (is_byte 76) (sym c.before.before.before.before.before.before.before.before.before.before.before.before.before.field_of.ensures) ∙ sym c.before.before.before.before.before.before.before.before.before.before.before.before.is_byte.ensures ∙ c.before.before.before.before.before.before.before.before.before.before.before.if2.false in
     let write = ap (is_byte 87) (sym c.before.before.before.before.before.before.before.before.before.before.before.before.before.field_of.ensures) ∙ sym c.before.before.before.before.before.before.before.before.before.before.is-byte2.ensures ∙ c.before.before.before.before.before.before.before.before.before.if3.false in
     let name = ap (isName (text "LONG")) (sym c.before.before.before.before.before.before.before.before.before.before.before.before.before.field_of.ensures) ∙ sym c.before.before.before.before.before.before.before.is_name.ensures ∙ c.before.before.before.before.before.before.if4.true in
     let rest = c.before.before.before.before.behind-space2.ensures ∙ ap (drop 1) c.before.before.before.before.before.behind-field3.ensures in
@@ -88,7 +88,7 @@ same-length-3 c = search rules
 
 returns-5 : tie.Need-returns-5
 returns-5 c =
-    let list = ap (is_byte 76) (sym c.before.before.before.before.before.before.before.before.before.before.before.field_of.ensures) ∙ sym c.before.before.before.before.before.before.before.before.before.before.is_byte_lem.ensures ∙ c.before.before.before.before.before.before.before.before.before.if2.false in
+    let list = ap (is_byte 76) (sym c.before.before.before.before.before.before.before.before.before.before.before.field_of.ensures) ∙ sym c.before.before.before.before.before.before.before.before.before.before.is_byte.ensures ∙ c.before.before.before.before.before.before.before.before.before.if2.false in
     let write = ap (is_byte 87) (sym c.before.before.before.before.before.before.before.before.before.before.before.field_of.ensures) ∙ sym c.before.before.before.before.before.before.before.before.is-byte2.ensures ∙ c.before.before.before.before.before.before.before.if3.false in
     let other = ap (isName (text "LONG")) (sym c.before.before.before.before.before.before.before.before.before.before.before.field_of.ensures) ∙ sym c.before.before.before.before.before.is_name.ensures ∙ c.before.before.before.before.if4.false in
     c.before.before.read-parse.ensures ∙ sym (line-parse _ _ c.before.before.before.before.before.before.before.before.before.before.before.before.if1.false list write other)

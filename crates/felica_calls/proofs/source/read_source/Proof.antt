@@ -20,13 +20,13 @@ is-byte-requires : tie.Need-is-byte-requires
 is-byte-requires c κs = search rules
 
 returns-2 : tie.Need-returns-2
-returns-2 c = sym (source-frame _ c.before.before.before.if1.false (ap (is_byte 70) (sym c.before.before.field_of.ensures) ∙ sym c.before.is_byte_lem.ensures ∙ c.if2.true))
+returns-2 c = sym (source-frame _ c.before.before.before.if1.false (ap (is_byte 70) (sym c.before.before.field_of.ensures) ∙ sym c.before.is_byte.ensures ∙ c.if2.true))
 
 is-byte-requires-2 : tie.Need-is-byte-requires-2
 is-byte-requires-2 c κs = search rules
 
 returns-3 : tie.Need-returns-3
-returns-3 c = sym (source-payload _ c.before.before.before.before.before.if1.false (ap (is_byte 70) (sym c.before.before.before.before.field_of.ensures) ∙ sym c.before.before.before.is_byte_lem.ensures ∙ c.before.before.if2.false) (ap (is_byte 80) (sym c.before.before.before.before.field_of.ensures) ∙ sym c.before.is-byte2.ensures ∙ c.if3.true))
+returns-3 c = sym (source-payload _ c.before.before.before.before.before.if1.false (ap (is_byte 70) (sym c.before.before.before.before.field_of.ensures) ∙ sym c.before.before.before.is_byte.ensures ∙ c.before.before.if2.false) (ap (is_byte 80) (sym c.before.before.before.before.field_of.ensures) ∙ sym c.before.is-byte2.ensures ∙ c.if3.true))
 
 is-byte-requires-3 : tie.Need-is-byte-requires-3
 is-byte-requires-3 c κs = search rules
@@ -38,10 +38,10 @@ read-secure-requires : tie.Need-read-secure-requires
 read-secure-requires c κs = search rules
 
 returns-4 : tie.Need-returns-4
-returns-4 c = c.read-secure.ensures ∙ ap (λ r. secureSource (readCommandCode (nextField r))) c.before.behind-field.ensures ∙ sym (source-secure _ c.before.before.before.before.before.before.before.before.before.if1.false (ap (is_byte 70) (sym c.before.before.before.before.before.before.before.before.field_of.ensures) ∙ sym c.before.before.before.before.before.before.before.is_byte_lem.ensures ∙ c.before.before.before.before.before.before.if2.false) (ap (is_byte 80) (sym c.before.before.before.before.before.before.before.before.field_of.ensures) ∙ sym c.before.before.before.before.before.is-byte2.ensures ∙ c.before.before.before.before.if3.false) (ap (is_byte 83) (sym c.before.before.before.before.before.before.before.before.field_of.ensures) ∙ sym c.before.before.before.is-byte3.ensures ∙ c.before.before.if4.true))
+returns-4 c = c.read-secure.ensures ∙ ap (λ r. secureSource (readCommandCode (nextField r))) c.before.behind-field.ensures ∙ sym (source-secure _ c.before.before.before.before.before.before.before.before.before.if1.false (ap (is_byte 70) (sym c.before.before.before.before.before.before.before.before.field_of.ensures) ∙ sym c.before.before.before.before.before.before.before.is_byte.ensures ∙ c.before.before.before.before.before.before.if2.false) (ap (is_byte 80) (sym c.before.before.before.before.before.before.before.before.field_of.ensures) ∙ sym c.before.before.before.before.before.is-byte2.ensures ∙ c.before.before.before.before.if3.false) (ap (is_byte 83) (sym c.before.before.before.before.before.before.before.before.field_of.ensures) ∙ sym c.before.before.before.is-byte3.ensures ∙ c.before.before.if4.true))
 
 returns-5 : tie.Need-returns-5
-returns-5 c = sym (source-unknown _ c.before.before.before.before.before.before.before.if1.false (ap (is_byte 70) (sym c.before.before.before.before.before.before.field_of.ensures) ∙ sym c.before.before.before.before.before.is_byte_lem.ensures ∙ c.before.before.before.before.if2.false) (ap (is_byte 80) (sym c.before.before.before.before.before.before.field_of.ensures) ∙ sym c.before.before.before.is-byte2.ensures ∙ c.before.before.if3.false) (ap (is_byte 83) (sym c.before.before.before.before.before.before.field_of.ensures) ∙ sym c.before.is-byte3.ensures ∙ c.if4.false))
+returns-5 c = sym (source-unknown _ c.before.before.before.before.before.before.before.if1.false (ap (is_byte 70) (sym c.before.before.before.before.before.before.field_of.ensures) ∙ sym c.before.before.before.before.before.is_byte.ensures ∙ c.before.before.before.before.if2.false) (ap (is_byte 80) (sym c.before.before.before.before.before.before.field_of.ensures) ∙ sym c.before.before.before.is-byte2.ensures ∙ c.before.before.if3.false) (ap (is_byte 83) (sym c.before.before.before.before.before.before.field_of.ensures) ∙ sym c.before.is-byte3.ensures ∙ c.if4.false))
 
 pub read-source-spec : {M : Type 1} → statement M
 read-source-spec =

@@ -19,7 +19,7 @@ same_length : tie.Need-same-length
 same_length c = search rules
 
 returns : tie.Need-returns
-returns c = ap (λ b. b.bytes) c.before.before.decode.ensures ∙ ap (bytesOver _) (c.before.before.before.before.value-at.ensures ∙ ap (value_at _) c.before.before.before.before.before.start_of_lem.ensures)
+returns c = ap (λ b. b.bytes) c.before.before.decode.ensures ∙ ap (bytesOver _) (c.before.before.before.before.value-at.ensures ∙ ap (value_at _) c.before.before.before.before.before.start_of.ensures)
 
 pub fill_spec : {M : Type 1} → statement M
 fill_spec =

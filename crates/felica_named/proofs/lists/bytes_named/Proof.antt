@@ -21,7 +21,7 @@ same_length : tie.Need-same-length
 same_length c = search rules
 
 returns : tie.Need-returns
-returns c = c.before.before.decode.ensures ∙ ap (λ v. put (buffer c.before.before.before.before.before.before.before.before.before.args.bytes.now 0) (bytes_of v)) (c.before.before.before.before.value-at.ensures ∙ ap (value_at _) c.before.before.before.before.before.start_of_lem.ensures)
+returns c = c.before.before.decode.ensures ∙ ap (λ v. put (buffer c.before.before.before.before.before.before.before.before.before.args.bytes.now 0) (bytes_of v)) (c.before.before.before.before.value-at.ensures ∙ ap (value_at _) c.before.before.before.before.before.start_of.ensures)
 
 pub bytes-named-spec : {M : Type 1} → statement M
 bytes-named-spec =

@@ -44,13 +44,13 @@ value-of-requires : tie.Need-value-of-requires invariant-loop decreases-loop
 value-of-requires c κs = search rules
 
 add-number : tie.Need-overflow-add-number invariant-loop decreases-loop
-add-number c = omega (arith, c.value_of_lem.ensures, value-small (get_or c.before.before.before.before.before.before.before.args.value.now c.before.before.before.before.loop.i 0))
+add-number c = omega (arith, c.value_of.ensures, value-small (get_or c.before.before.before.before.before.before.before.args.value.now c.before.before.before.before.loop.i 0))
 
 loop-less-2 : tie.Need-loop-smaller-2 invariant-loop decreases-loop
 loop-less-2 c = omega arith
 
 loop-again-2 : tie.Need-loop-preserved-2 invariant-loop decreases-loop
-loop-again-2 c = (omega arith, c.before.before.before.before.loop.invariant.1, ap (put _) (sym (number-digit _ _ c.before.before.before.loop-test.true 16 _ c.before.if1.false c.value_of_lem.ensures)) ∙ c.before.before.before.before.loop.invariant.2)
+loop-again-2 c = (omega arith, c.before.before.before.before.loop.invariant.1, ap (put _) (sym (number-digit _ _ c.before.before.before.loop-test.true 16 _ c.before.if1.false c.value_of.ensures)) ∙ c.before.before.before.before.loop.invariant.2)
 
 put-byte-requires-2 : tie.Need-put-byte-requires-2 invariant-loop decreases-loop
 put-byte-requires-2 c κs = search rules

@@ -16,7 +16,7 @@ is-byte-requires c κs = search rules
 
 returns-2 : tie.Need-returns-2
 unfolding put
-returns-2 c = rw (ne_eqb _ _ c.before.before.if1.false, sym c.before.is_byte_lem.ensures ∙ c.if2.true)
+returns-2 c = rw (ne_eqb _ _ c.before.before.if1.false, sym c.before.is_byte.ensures ∙ c.if2.true)
 
 put-each-word-requires : tie.Need-put-each-word-requires
 put-each-word-requires c κs = search rules
@@ -25,7 +25,7 @@ same_length : tie.Need-same-length
 same_length c = search rules
 
 returns-3 : tie.Need-returns-3
-returns-3 c = rw (ne_eqb _ _ c.before.before.before.before.before.before.if1.false, sym c.before.before.before.before.before.is_byte_lem.ensures ∙ c.before.before.before.before.if2.false) c.before.before.put-each-word.ensures
+returns-3 c = rw (ne_eqb _ _ c.before.before.before.before.before.before.if1.false, sym c.before.before.before.before.before.is_byte.ensures ∙ c.before.before.before.before.if2.false) c.before.before.put-each-word.ensures
 
 pub put-words-spec : {M : Type 1} → statement M
 put-words-spec =

@@ -20,7 +20,7 @@ same_length : tie.Need-same-length
 same_length c = search rules
 
 returns : tie.Need-returns
-returns c = c.before.before.put-words.ensures ∙ ap (λ v. put (buffer c.before.before.before.before.before.before.before.before.before.args.words.now 0) (words_in v)) (c.before.before.before.before.value-at.ensures ∙ ap (value_at _) c.before.before.before.before.before.start_of_lem.ensures)
+returns c = c.before.before.put-words.ensures ∙ ap (λ v. put (buffer c.before.before.before.before.before.before.before.before.before.args.words.now 0) (words_in v)) (c.before.before.before.before.value-at.ensures ∙ ap (value_at _) c.before.before.before.before.before.start_of.ensures)
 
 pub words-named-spec : {M : Type 1} → statement M
 words-named-spec =
