@@ -1,0 +1,8 @@
+-- `felica_answers::long::put_count` meets its contract: piece after piece.
+-- Assumes nothing.
+use Rattle.felica_put.proofs.Laws.{put_then}
+use borrow.Author.Rules.{rules}
+use Rattle.felica_answers.proofs.long.put_count.Goals as goal
+
+pub returns : goal.returns
+returns c = put_then _ _ _ c.put_bytes-next.ensures c.put_decimal.ensures

@@ -1,0 +1,15 @@
+-- `felica_calls::field::is_name` meets its contract: what is left of the name decides.
+-- Assumes nothing.
+use native.Mathlib.Omega.{arith}
+use Prim.Native.Nat.{◌-◌, ◌≤◌}
+use mathlib.Core.Path.{◌≡◌, refl, sym, ◌∙◌}
+use lib.ListN.{length, drop}
+use Rattle.felica_calls.specs.Field.{isName}
+use Rattle.felica_calls.proofs.Reading.{name-size, name-other, name-more, name-all}
+use Rattle.felica_calls.proofs.field.is_name.Given as goal
+
+abbrev pub invariant-loop-i : goal.invariant-loop-i
+invariant-loop-i l = (l.i ≤ length l.name) × (length l.field ≡ length l.name) × (isName (drop l.i l.name) (drop l.i l.field) ≡ isName l.name l.field)
+
+abbrev pub decreases-loop-i : goal.decreases-loop-i
+decreases-loop-i l = length l.name - l.i

@@ -1,0 +1,20 @@
+-- `Cursor::measure` meets its contract.
+-- Assumes nothing.
+use borrow.Author.Rules.{rules}
+use mathlib.Core.Path.{refl, sym}
+use borrow.Author.Tests.{lt-ltb, le-ltb}
+use Rattle.felica_format.specs.Basic.{refuseIf}
+use Rattle.felica_cursor.specs.Steps.{measured}
+use Rattle.felica_cursor.proofs.cursor.Cursor.measure.Goals as goal
+
+pub returns-then-left-size : goal.returns-then-left-size
+unfolding measured refuseIf
+returns-then-left-size c = (simp (sym c.left-left.ensures, lt-ltb _ _ c.if-left-size.true), tt)
+
+pub returns-then-size-left : goal.returns-then-size-left
+unfolding measured refuseIf
+returns-then-size-left c = (simp (sym c.left-left.ensures, le-ltb _ _ c.if-left-size.false, lt-ltb _ _ c.if-size-left.true), tt)
+
+pub returns : goal.returns
+unfolding measured refuseIf
+returns c = (simp (sym c.left-left.ensures, le-ltb _ _ c.if-left-size.false, le-ltb _ _ c.if-size-left.false), refl)

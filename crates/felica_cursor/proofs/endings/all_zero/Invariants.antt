@@ -1,0 +1,15 @@
+-- `all_zero` meets its contract: those passed are 00.
+-- Assumes nothing.
+use borrow.Author.Rules.{rules}
+use mathlib.Core.Path.{◌≡◌, sym, ◌∙◌}
+use Prim.Native.Nat.{◌≤◌, ◌+◌, ◌-◌}
+use native.Mathlib.Omega.{arith}
+use Rattle.felica_format.specs.Read.{zeroAt}
+use Rattle.felica_cursor.proofs.Laws.{zero-start, zero_more, zero-not}
+use Rattle.felica_cursor.proofs.endings.all_zero.Given as goal
+
+abbrev pub invariant-loop-i : goal.invariant-loop-i
+invariant-loop-i l = (l.i ≤ l.count) × (zeroAt l.count l.payload l.at ≡ zeroAt (l.count - l.i) l.payload (l.at + l.i))
+
+abbrev pub decreases-loop-i : goal.decreases-loop-i
+decreases-loop-i l = l.count - l.i

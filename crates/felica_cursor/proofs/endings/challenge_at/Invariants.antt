@@ -1,0 +1,18 @@
+-- `challenge_at` meets its contract: the bytes passed are in place, zeros behind them.
+-- Assumes nothing.
+use borrow.Author.Rules.{rules}
+use mathlib.Core.Path.{◌≡◌, refl}
+use Prim.Native.Nat.{◌≤◌, ◌-◌}
+use native.Mathlib.Nat.{zero-add}
+use native.Mathlib.Omega.{arith}
+use lib.ListN.{drop}
+use lib.Seq.{paste}
+use Rattle.felica_format.specs.Basic.{zeros}
+use Rattle.felica_cursor.proofs.Laws.{paste_more, drop-zeros}
+use Rattle.felica_cursor.proofs.endings.challenge_at.Given as goal
+
+abbrev pub invariant-loop-i : goal.invariant-loop-i
+invariant-loop-i l = (l.i ≤ l.count) × (l.challenge ≡ paste (zeros 16) 0 (drop l.at l.payload) l.i)
+
+abbrev pub decreases-loop-i : goal.decreases-loop-i
+decreases-loop-i l = l.count - l.i

@@ -1,0 +1,8 @@
+-- `felica_fields::field::put_nibbles_field` meets its contract.
+-- Assumes nothing.
+use Rattle.felica_put.proofs.Laws.{put_then}
+use borrow.Author.Rules.{rules}
+use Rattle.felica_fields.proofs.field.put_nibbles_field.Goals as goal
+
+pub returns : goal.returns
+returns c = put_then _ _ _ c.put_bytes-next.ensures c.put_nibbles.ensures

@@ -1,0 +1,21 @@
+-- `felica_format::classes::class_of` meets its contract: the table is the one that the rule makes.
+-- Assumes nothing.
+use borrow.Author.Rules.{rules}
+use mathlib.Core.Path.{sym, ap, ◌∙◌}
+use lib.ListN.{get_or}
+use Rattle.felica_format.proofs.ClassTable.{byteClass, byteClass-other, classes, class-at}
+use Rattle.felica_format.proofs.classes.class_of.Goals as goal
+
+pub returns-in-1 : goal.returns-in-1
+unfolding classes
+returns-in-1 c = sym (ap byteClass c.in-1.is) ∙ class-at c.args.code (search rules)
+
+pub returns-in-2 : goal.returns-in-2
+unfolding classes
+returns-in-2 c = sym (ap byteClass c.in-2.is) ∙ class-at c.args.code (search rules)
+
+pub returns-in_default : goal.returns-in_default
+unfolding classes
+returns-in_default c =
+    sym (byteClass-other (get_or classes c.args.code 0) c.in_default.in_default-own.rest.0.1 c.in_default.in_default-own.rest.1)
+    ∙ class-at c.args.code (search rules)

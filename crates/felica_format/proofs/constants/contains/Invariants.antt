@@ -1,0 +1,16 @@
+-- `felica_format::constants::contains` meets its contract: what is left of the table has the value exactly where the table has it.
+-- Assumes nothing.
+use borrow.Author.Rules.{rules}
+use Prim.Native.Nat.{◌≤◌, ◌-◌}
+use native.Mathlib.Omega.{arith}
+use mathlib.Core.Path.{◌≡◌, refl, sym, ap, ◌∙◌}
+use lib.ListN.{length, drop, drop_of_length-le}
+use Rattle.felica_format.specs.Basic.{isOneOf}
+use Rattle.felica_format.proofs.Members.{is-here, is_later}
+use Rattle.felica_format.proofs.constants.contains.Given as goal
+
+abbrev pub invariant-loop-i : goal.invariant-loop-i
+invariant-loop-i l = (l.i ≤ length l.table) × (isOneOf (drop l.i l.table) l.value ≡ isOneOf l.table l.value)
+
+abbrev pub decreases-loop-i : goal.decreases-loop-i
+decreases-loop-i l = length l.table - l.i

@@ -1,0 +1,16 @@
+-- `felica_format::constants::is_polling_time_slot` meets its contract: the formula, test by test.
+-- Assumes nothing.
+use native.Mathlib.Omega.{arith}
+use borrow.Author.Rules.{rules}
+use borrow.Author.Tests.{lt-ltb, le-ltb}
+use Rattle.felica_format.specs.Basic.{◌and◌}
+use Rattle.felica_format.specs.Read.{isTimeSlots}
+use Rattle.felica_format.proofs.constants.is_polling_time_slot.Goals as goal
+
+pub returns-then-value-lt16 : goal.returns-then-value-lt16
+unfolding isTimeSlots ◌and◌
+returns-then-value-lt16 c = rw (lt-ltb c.args.value 16 (omega arith))
+
+pub returns-else-value-lt16 : goal.returns-else-value-lt16
+unfolding isTimeSlots ◌and◌
+returns-else-value-lt16 c = rw (le-ltb c.args.value 16 (omega arith))

@@ -1,0 +1,16 @@
+-- `felica_named::fixed::byte_handed` meets its contract.
+-- Assumes nothing.
+use mathlib.Core.Path.{ap}
+use lib.ListN.{get_or}
+use borrow.Author.Tests.{eq-eqb, ne_eqb}
+use Rattle.felica_named.specs.Names.{names}
+use borrow.Author.Rules.{rules}
+use Rattle.felica_named.proofs.fixed.byte_handed.Goals as goal
+
+pub returns-then-name-eq-NOWHERE : goal.returns-then-name-eq-NOWHERE
+unfolding names
+returns-then-name-eq-NOWHERE c = rw (eq-eqb _ _ c.if-name-eq-NOWHERE.true)
+
+pub returns : goal.returns
+unfolding names
+returns c = rw (ne_eqb _ _ c.if-name-eq-NOWHERE.false) (ap (λ l. get_or l 0 0) c.fill.ensures)

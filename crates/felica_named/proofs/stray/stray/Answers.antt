@@ -1,0 +1,34 @@
+-- `felica_named::stray::stray` meets its contract: what is left of the table decides.
+-- Assumes nothing.
+use native.Mathlib.Omega.{arith}
+use Prim.Native.Nat.{◌-◌}
+use mathlib.Core.Path.{◌≡◌, refl, sym, ap, ◌∙◌}
+use lib.ListN.{length, drop}
+use Rattle.felica_format.specs.Basic.{◌and◌}
+use Rattle.felica_named.specs.Names.{names, beginsWith, place_in}
+use Rattle.felica_named.specs.Handed.{strays, strayFrom, strayOf}
+use Rattle.felica_named.proofs.Strays.{stray-here, stray-later, stray-none}
+use borrow.Author.Rules.{rules}
+use Rattle.felica_named.proofs.stray.stray.Goals as goal
+
+pub loop-name-init : goal.loop-name-init
+unfolding names beginsWith place_in ◌and◌
+loop-name-init c = refl
+
+pub bounds-starts-name : goal.bounds-starts-name
+bounds-starts-name c = omega arith
+
+pub returns-then-strays : goal.returns-then-strays
+returns-then-strays c = sym (stray-here _ _ _ _ c.loop-name-test.true (ap (strays c.args.code c.loop-name.name) (sym c.value_at.ensures) ∙ sym c.strays.ensures ∙ c.if-strays.true)) ∙ c.loop-name.invariant
+
+pub overflow_add-name : goal.overflow_add-name
+overflow_add-name c = omega arith
+
+pub loop-name-smaller : goal.loop-name-smaller
+loop-name-smaller c = omega arith
+
+pub loop-name-preserved : goal.loop-name-preserved
+loop-name-preserved c = sym (stray-later _ _ _ _ c.loop-name-test.true (ap (strays c.args.code c.loop-name.name) (sym c.value_at.ensures) ∙ sym c.strays.ensures ∙ c.if-strays.false)) ∙ c.loop-name.invariant
+
+pub returns : goal.returns
+returns c = sym (stray-none _ _ _ _ c.loop-name-test.false) ∙ c.loop-name.invariant

@@ -1,0 +1,15 @@
+-- `felica_named::values::all_zero` meets its contract: what is left to look at decides.
+-- Assumes nothing.
+use native.Mathlib.Omega.{arith}
+use Prim.Native.Nat.{◌-◌, ◌≤◌}
+use mathlib.Core.Path.{◌≡◌, refl, sym, ap, ◌∙◌}
+use lib.ListN.{length, drop, drop_of_length-le}
+use Rattle.felica_named.specs.Values.{allZero}
+use Rattle.felica_named.proofs.Digits.{zero-other, zero_more}
+use Rattle.felica_named.proofs.values.all_zero.Given as goal
+
+abbrev pub invariant-loop-i : goal.invariant-loop-i
+invariant-loop-i l = (l.i ≤ length l.value) × (allZero (drop l.i l.value) ≡ allZero l.value)
+
+abbrev pub decreases-loop-i : goal.decreases-loop-i
+decreases-loop-i l = length l.value - l.i

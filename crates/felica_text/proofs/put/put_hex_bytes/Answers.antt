@@ -1,0 +1,39 @@
+-- `felica_text::put::put_hex_bytes` meets its contract.
+-- Assumes nothing.
+use borrow.Author.Rules.{rules}
+use native.Mathlib.Omega.{arith}
+use Prim.Native.Nat.{◌-◌, ◌≤◌}
+use mathlib.Core.Path.{◌≡◌, refl, ◌∙◌}
+use lib.ListN.{length, drop}
+use Rattle.felica_text.specs.Text.{byteText, digitsText}
+use Rattle.felica_put.specs.Put.{buffer, put}
+use Rattle.felica_put.proofs.Laws.{put-more, put-done}
+use Rattle.felica_text.proofs.put.put_hex_bytes.Goals as goal
+
+pub loop-i-init : goal.loop-i-init
+loop-i-init c = (omega arith, refl, refl)
+
+pub bounds-bytes-i : goal.bounds-bytes-i
+bounds-bytes-i c = omega arith
+
+pub overflow_add-i : goal.overflow_add-i
+overflow_add-i c = omega arith
+
+pub loop-i-smaller : goal.loop-i-smaller
+loop-i-smaller c = omega arith
+
+pub loop-i-preserved : goal.loop-i-preserved
+unfolding digitsText
+loop-i-preserved c = let l = c.loop-i in
+    let w = c.put_hex_byte-next in (
+      omega arith,
+      w.auto.0 ∙ l.invariant.1,
+      put-more digitsText byteText (λ x xs. refl) _ _ _ 0 c.loop-i-test.true l.invariant.2 w.ensures,
+    )
+
+pub shape_of-out : goal.shape_of-out
+shape_of-out c = c.loop-i.invariant.1
+
+pub returns : goal.returns
+unfolding digitsText
+returns c = put-done digitsText _ _ _ refl c.loop-i-test.false c.loop-i.invariant.2

@@ -1,0 +1,49 @@
+-- `felica_text::put::put_nibbles` meets its contract: the first entry, then each behind its comma.
+-- Assumes nothing.
+use borrow.Author.Rules.{rules}
+use native.Mathlib.Omega.{arith}
+use Prim.Native.Nat.{◌-◌, ◌≤◌}
+use mathlib.Core.Path.{◌≡◌, refl, sym, ap, ◌∙◌}
+use mathlib.Core.List.{◌∷◌}
+use lib.ListN.{length, drop}
+use Rattle.felica_text.specs.Text.{nibbleText, behindCommas}
+use Rattle.felica_put.specs.Put.{buffer, put}
+use Rattle.felica_put.proofs.Laws.{put_then, put-more, put-done}
+use Rattle.felica_text.proofs.Text.{parted-none, parted-some}
+use Rattle.felica_text.proofs.put.put_nibbles.Goals as goal
+
+pub returns-then-nibbles-eq0 : goal.returns-then-nibbles-eq0
+returns-then-nibbles-eq0 c = c.put_byte.ensures ∙ ap (put _) (sym (parted-none nibbleText _ c.if-nibbles-eq0.true))
+
+pub bounds-nibbles-0 : goal.bounds-nibbles-0
+bounds-nibbles-0 c = omega arith
+
+pub loop-i-init : goal.loop-i-init
+loop-i-init c = (omega arith, refl, refl)
+
+pub bounds-nibbles-i : goal.bounds-nibbles-i
+bounds-nibbles-i c = omega arith
+
+pub overflow_add-i : goal.overflow_add-i
+overflow_add-i c = omega arith
+
+pub loop-i-smaller : goal.loop-i-smaller
+loop-i-smaller c = omega arith
+
+pub loop-i-preserved : goal.loop-i-preserved
+unfolding behindCommas
+loop-i-preserved c = let l = c.loop-i in
+    let w = c.put_byte-next-in-loop-i in
+    let x = c.put_byte-next-in-loop-i-2 in (
+      omega arith,
+      x.auto.0 ∙ w.auto.0 ∙ l.invariant.1,
+      put-more (behindCommas nibbleText) (λ a. 44 ∷ nibbleText a) (λ a rest. refl) _ _ _ 0 c.loop-i-test.true l.invariant.2 (put_then _ _ _ w.ensures (rw c.hex_digit-in-loop-i.ensures at x.ensures)),
+    )
+
+pub shape_of-out : goal.shape_of-out
+shape_of-out c = c.loop-i.invariant.1 ∙ c.put_byte-next.auto.0
+
+pub returns : goal.returns
+unfolding behindCommas
+returns c = put_then _ _ _ (rw c.hex_digit.ensures at c.put_byte-next.ensures) (put-done (behindCommas nibbleText) _ _ _ refl c.loop-i-test.false c.loop-i.invariant.2)
+    ∙ ap (put _) (sym (parted-some nibbleText _ 0 c.if-nibbles-eq0.false))

@@ -1,0 +1,52 @@
+-- `felica_text::put::put_words` meets its contract: the first entry, then each behind its comma.
+-- Assumes nothing.
+use borrow.Author.Rules.{rules}
+use native.Mathlib.Omega.{arith}
+use Prim.Native.Nat.{◌-◌, ◌≤◌}
+use mathlib.Core.Path.{◌≡◌, refl, sym, ap, ◌∙◌}
+use mathlib.Core.List.{◌∷◌}
+use lib.ListN.{length, drop}
+use Rattle.felica_text.specs.Text.{wordText, behindCommas}
+use Rattle.felica_put.specs.Put.{buffer, put}
+use Rattle.felica_put.proofs.Laws.{put_then, put-more, put-done}
+use Rattle.felica_text.proofs.Text.{parted-none, parted-some}
+use Rattle.felica_text.proofs.put.put_words.Goals as goal
+
+pub returns-then-words-eq0 : goal.returns-then-words-eq0
+returns-then-words-eq0 c = c.put_byte.ensures ∙ ap (put _) (sym (parted-none wordText _ c.if-words-eq0.true))
+
+pub bounds-words-0 : goal.bounds-words-0
+bounds-words-0 c = omega arith
+
+pub loop-i-init : goal.loop-i-init
+loop-i-init c = (omega arith, refl, refl)
+
+pub offset_bounds-words-i : goal.offset_bounds-words-i
+offset_bounds-words-i c = omega arith
+
+pub bounds-words-i : goal.bounds-words-i
+bounds-words-i c = omega arith
+
+pub overflow_add-i : goal.overflow_add-i
+overflow_add-i c = omega arith
+
+pub loop-i-smaller : goal.loop-i-smaller
+loop-i-smaller c = omega arith
+
+pub loop-i-preserved : goal.loop-i-preserved
+unfolding behindCommas
+loop-i-preserved c = let l = c.loop-i in
+    let w = c.put_byte-next in
+    let x = c.put_hex_word-next-in-loop-i in (
+      omega arith,
+      x.auto.0 ∙ w.auto.0 ∙ l.invariant.1,
+      put-more (behindCommas wordText) (λ a. 44 ∷ wordText a) (λ a rest. refl) _ _ _ 0 c.loop-i-test.true l.invariant.2 (put_then _ _ _ w.ensures x.ensures),
+    )
+
+pub shape_of-out : goal.shape_of-out
+shape_of-out c = c.loop-i.invariant.1 ∙ c.put_hex_word-next.auto.0
+
+pub returns : goal.returns
+unfolding behindCommas
+returns c = put_then _ _ _ c.put_hex_word-next.ensures (put-done (behindCommas wordText) _ _ _ refl c.loop-i-test.false c.loop-i.invariant.2)
+    ∙ ap (put _) (sym (parted-some wordText _ 0 c.if-words-eq0.false))

@@ -1,0 +1,44 @@
+-- `felica_write::size::short_size` meets its contract.
+-- Assumes nothing.
+use borrow.Author.Rules.{rules}
+use Prim.Native.Nat.{◌+◌, ◌-◌, ◌≤◌}
+use native.Mathlib.Omega.{arith}
+use mathlib.Core.Path.{◌≡◌}
+use lib.ListN.{length, drop}
+use Rattle.felica_write.specs.Size.{shortSize}
+use Rattle.felica_write.proofs.Elements.{size-bound, size-next, size-done}
+use Rattle.felica_write.proofs.size.short_size.Goals as goal
+
+pub loop-i-init : goal.loop-i-init
+loop-i-init c = (omega arith, omega arith)
+
+pub offset_bounds-numbers-i : goal.offset_bounds-numbers-i
+offset_bounds-numbers-i c = omega arith
+
+pub bounds-numbers-i : goal.bounds-numbers-i
+bounds-numbers-i c = omega arith
+
+pub overflow_add-size : goal.overflow_add-size
+overflow_add-size c =
+    let ns = c.args.numbers.now in
+    let l = c.loop-i in
+    omega (arith, size-next ns l.i c.loop-i-test.true, size-bound ns, l.invariant.1, c.element_size-size.ensures, c.requires)
+
+pub overflow_add-i : goal.overflow_add-i
+overflow_add-i c = omega arith
+
+pub loop-i-smaller : goal.loop-i-smaller
+loop-i-smaller c = omega arith
+
+pub loop-i-preserved : goal.loop-i-preserved
+loop-i-preserved c =
+    let ns = c.args.numbers.now in
+    let l = c.loop-i in
+    (omega arith, omega (arith, size-next ns l.i c.loop-i-test.true, l.invariant.1, c.element_size-size.ensures))
+
+pub returns : goal.returns
+returns c =
+    let l = c.loop-i in
+    let ns = c.args.numbers.now in
+    let done = size-done ns l.i c.loop-i-test.false in
+    (omega (arith, done, l.invariant.1), omega (arith, done, l.invariant.1, size-bound ns, c.requires))
