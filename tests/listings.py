@@ -3,7 +3,7 @@
 
 The logs of this file need nothing else. CORPUS, a folder that is not part of this repository (../shared/corpus beside it is taken if it is there), has more: logs/NAME.log
 with logs/NAME.w204, the listing expected of it since W-204, and full-w204.tsv, logs of a million records as recipes: name, form, record in hexadecimal, how many times, the bytes behind
-them in hexadecimal or -, and the SHA-256 of the listing. Build the program first: rt check list_log.
+them in hexadecimal or -, and the SHA-256 of the listing. Build the program first, by rt run in its folder (crates/list_log).
 """
 import fcntl
 import hashlib
@@ -16,7 +16,7 @@ import threading
 import time
 
 ROOT = pathlib.Path(__file__).resolve().parent.parent
-PROGRAM = ROOT / "target" / "bin" / "list_log"
+PROGRAM = ROOT / "crates" / "list_log" / "out" / "list_log"
 POLLING = bytes.fromhex("06060001020000")
 READ = bytes.fromhex("10100601020304050607080109100180FF")
 

@@ -9,19 +9,19 @@ use Rattle.felica_calls.specs.Write.{behindCode}
 use Rattle.felica_calls.specs.Call.{Called}
 use Rattle.felica_calls.specs.declared.call.Call.{Call}
 use Rattle.felica_calls.specs.declared.call.Call.TheVariants.{Parse, Long, List as ListCall, Write, Wrong}
-use Rattle.felica_answers.specs.Answer.{line_of}
+use Rattle.felica_answers.specs.Answer.{lineOf}
 use Rattle.felica_answers.specs.Long.{longLine}
 use Rattle.felica_writing.specs.Answer.{writeAnswer}
-use Rattle.felica.specs.Source.{reading_of, payloadIn, body_at}
+use Rattle.felica.specs.Source.{readingOf, payloadIn, bodyAt}
 use Rattle.felica.specs.Lists.{listAnswer}
 
 -- of a call to parse, the line of the one result that the definitions allow; of one that asks how many elements were long, the line of what they count; the fields of a call to write stand in the line
 abbrev pub AnswerTo : List ℕ → Call → List ℕ → Buffer → Buffer → Type 0
 AnswerTo line (Parse source n) bytes before after =
-    (p : Parsed) × Account (payloadIn source (take n bytes)) (body_at source) (reading_of source (take n bytes)) p
-    × (after ≡ put before (line_of (payloadIn source (take n bytes)) p))
-AnswerTo line (Long source n) bytes before after = after ≡ put before (longLine (reading_of source (take n bytes)))
-AnswerTo line (ListCall source n z) bytes before after = after ≡ put before (listAnswer (reading_of source (take n bytes)) z)
+    (p : Parsed) × Account (payloadIn source (take n bytes)) (bodyAt source) (readingOf source (take n bytes)) p
+    × (after ≡ put before (lineOf (payloadIn source (take n bytes)) p))
+AnswerTo line (Long source n) bytes before after = after ≡ put before (longLine (readingOf source (take n bytes)))
+AnswerTo line (ListCall source n z) bytes before after = after ≡ put before (listAnswer (readingOf source (take n bytes)) z)
 AnswerTo line (Write size c) bytes before after = after ≡ put before (writeAnswer size c (behindCode line))
 AnswerTo line (Wrong fault) bytes before after = after ≡ put before (faultText fault)
 

@@ -6,10 +6,10 @@ use Rattle.felica_calls.specs.declared.source.Source.{Source}
 use Rattle.felica_calls.specs.declared.source.Source.TheVariants.{Frame, Payload, Secure}
 
 -- what they give
-abbrev pub reading_of : Source → List ℕ → Reading
-reading_of Frame s = readFrame s
-reading_of Payload s = readPayload s
-reading_of (Secure code) s = readSecure code s
+abbrev pub readingOf : Source → List ℕ → Reading
+readingOf Frame s = readFrame s
+readingOf Payload s = readPayload s
+readingOf (Secure code) s = readSecure code s
 
 -- the payload that the places of a result count from, and where its body begins
 abbrev pub payloadIn : Source → List ℕ → List ℕ
@@ -17,7 +17,7 @@ payloadIn Frame s = drop 1 s
 payloadIn Payload s = s
 payloadIn (Secure code) s = s
 
-abbrev pub body_at : Source → ℕ
-body_at Frame = 1
-body_at Payload = 1
-body_at (Secure code) = 0
+abbrev pub bodyAt : Source → ℕ
+bodyAt Frame = 1
+bodyAt Payload = 1
+bodyAt (Secure code) = 0

@@ -1,5 +1,6 @@
 // Answers calls: reads them on standard input, a line each, and writes a line for each to standard output.
 #![tactic(auto)]
+
 ghost use Rattle.std.specs.Prelude.{◌≤◌, length};
 ghost use Rattle.felica_put.specs.Put.{buffer};
 ghost use Rattle.felica_calls.specs.Call.{readCall};
@@ -15,9 +16,9 @@ use felica_put::put_byte;
 use felica_stream::{keep_rest, make_room, read_more};
 use felica_text::find::find;
 use felica_writing::answer_write;
-use libc::STDOUT_FILENO;
 use lists::answer_list;
 use parse::{answer_long, answer_parse};
+use std::io::{Read, Write};
 
 // Bytes of the longest call.
 const MAX_CALL_BYTES: usize = 16384;
@@ -56,7 +57,13 @@ fn answer_line(line: &[u8], bytes: &mut [u8], out: &mut [u8], at: usize) -> usiz
 }
 
 // Answers the whole lines of `input`; what is held then is the rest of it.
-fn answer_lines(input: &[u8], bytes: &mut [u8], out: &mut [u8], waiting: usize) -> State
+fn answer_lines<W: Write>(
+    writer: &mut W,
+    input: &[u8],
+    bytes: &mut [u8],
+    out: &mut [u8],
+    waiting: usize,
+) -> State
     requires { waiting ≤ length out.old }
     ensures { (result.held ≤ length input.now) × (result.waiting ≤ length out.new) }
 {
@@ -72,7 +79,7 @@ fn answer_lines(input: &[u8], bytes: &mut [u8], out: &mut [u8], waiting: usize) 
                 failed: false,
             };
         }
-        let output = make_room(out, next, ANSWER_ROOM);
+        let output = make_room(writer, out, next, ANSWER_ROOM);
         if output.failed {
             return State {
                 held: 0,
@@ -92,12 +99,12 @@ fn answer_lines(input: &[u8], bytes: &mut [u8], out: &mut [u8], waiting: usize) 
 
 // Passes over the rest of a line, and answers how many bytes behind it are held. A proved loop has to end, and nothing says that the
 // input does: here and in `feed` the turns are counted down.
-fn skip_line(input: &mut [u8]) -> usize
+fn skip_line<R: Read>(reader: &mut R, input: &mut [u8]) -> usize
     ensures { result ≤ length input.new }
 {
     let mut turns = u64::MAX;
     while 0 < turns {
-        let read = read_more(input, 0);
+        let read = read_more(reader, input, 0);
         let more = read.held;
         if more == 0 {
             return 0;
@@ -114,7 +121,9 @@ fn skip_line(input: &mut [u8]) -> usize
 }
 
 // Answers the whole lines of what is held, and moves the rest to the start. A line that fills the buffer is too long.
-fn answer_held(
+fn answer_held<R: Read, W: Write>(
+    reader: &mut R,
+    writer: &mut W,
     input: &mut [u8],
     held: usize,
     bytes: &mut [u8],
@@ -124,33 +133,39 @@ fn answer_held(
     requires { (held ≤ length input.old) × (waiting ≤ length out.old) }
     ensures { (result.held ≤ length input.new) × (result.waiting ≤ length out.new) }
 {
-    let state = answer_lines(&input[..held], bytes, out, waiting);
+    let state = answer_lines(writer, &input[..held], bytes, out, waiting);
     let rest = state.held;
     if rest < input.len() {
         keep_rest(input, held - rest, held);
         return state;
     }
-    let output = make_room(out, state.waiting, ANSWER_ROOM);
+    let output = make_room(writer, out, state.waiting, ANSWER_ROOM);
     let behind = put_fault(out, output.waiting, Fault::LineTooLong);
     let next = put_byte(out, behind, b'\n');
     State {
-        held: skip_line(input),
+        held: skip_line(reader, input),
         waiting: next,
         failed: output.failed,
     }
 }
 
 // Reads the input to its end, and answers every line that ends in a line feed. What is held then is the last line, which has none.
-fn feed(input: &mut [u8], bytes: &mut [u8], out: &mut [u8]) -> State
+fn feed<R: Read, W: Write>(
+    reader: &mut R,
+    writer: &mut W,
+    input: &mut [u8],
+    bytes: &mut [u8],
+    out: &mut [u8],
+) -> State
     ensures { (result.held ≤ length input.new) × (result.waiting ≤ length out.new) }
 {
     let mut held = 0;
     let mut waiting = 0;
     let mut turns = u64::MAX;
     while 0 < turns {
-        let read = read_more(input, held);
+        let read = read_more(reader, input, held);
         let more = read.held;
-        let state = answer_held(input, more, bytes, out, waiting);
+        let state = answer_held(reader, writer, input, more, bytes, out, waiting);
         if state.failed {
             return state;
         }
@@ -168,28 +183,40 @@ fn feed(input: &mut [u8], bytes: &mut [u8], out: &mut [u8]) -> State
     }
 }
 
-fn run(input: &mut [u8], bytes: &mut [u8], out: &mut [u8]) {
-    let state = feed(input, bytes, out);
+fn run<R: Read, W: Write>(
+    reader: &mut R,
+    writer: &mut W,
+    input: &mut [u8],
+    bytes: &mut [u8],
+    out: &mut [u8],
+) {
+    let state = feed(reader, writer, input, bytes, out);
     let held = state.held;
     let waiting = state.waiting;
     if state.failed {
         return;
     }
     if held == 0 {
-        io::write_all(STDOUT_FILENO, &out[..waiting]);
+        let _ = writer.write_all(&out[..waiting]);
         return;
     }
-    let output = make_room(out, waiting, ANSWER_ROOM);
+    let output = make_room(writer, out, waiting, ANSWER_ROOM);
     if output.failed {
         return;
     }
     let end = answer_line(&input[..held], bytes, out, output.waiting);
-    io::write_all(STDOUT_FILENO, &out[..end]);
+    let _ = writer.write_all(&out[..end]);
 }
 
-fn main() {
-    let mut input = io::large_buffer();
+fn main(rt: HostRuntime) {
+    let mut input = [0u8; 65536];
     let mut bytes = [0u8; MAX_CALL_BYTES];
-    let mut out = io::large_buffer();
-    run(&mut input, &mut bytes, &mut out);
+    let mut out = [0u8; 65536];
+    run(
+        &mut rt.stdin(),
+        &mut rt.stdout(),
+        &mut input,
+        &mut bytes,
+        &mut out,
+    );
 }

@@ -1,4 +1,2 @@
-pub mod Rows
 pub mod Listed
 pub mod Lines
-pub mod Longs

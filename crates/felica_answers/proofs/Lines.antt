@@ -3,19 +3,15 @@
 use mathlib.Core.Path.{◌≡◌, refl, sym, ap, ◌∙◌}
 use mathlib.Core.List.{List}
 use Prim.Native.Nat.{ℕ}
-use lib.ListN.{take}
 use Rattle.felica_command.specs.declared.command.Refusal.{Refusal}
 use Rattle.felica_command.specs.declared.command.Refusal.TheVariants.{Number, OfCommand}
 use Rattle.felica_write.specs.Writing.{meaning, outcome}
 use Rattle.felica_write.specs.declared.Written.{Written}
-use Rattle.felica_write.specs.declared.Written.TheVariants.{Length, Refused}
+use Rattle.felica_write.specs.declared.Written.TheVariants.{Refused}
 use Rattle.felica_fields.specs.Refused.{refusalText}
-use Rattle.felica_answers.specs.Written.{bytesLine, writtenLine}
+use Rattle.felica_answers.specs.Written.{writtenLine}
 
 module _ (written : Written) (room : List ℕ) where
-  pub length-line : {n : ℕ} {bytes : List ℕ} → written ≡ Length n → bytes ≡ take n room → bytesLine n bytes ≡ writtenLine (outcome (meaning written) room)
-  length-line e is = rw (is, e)
-
   pub refusal-line : (why : Refusal) → written ≡ Refused why → refusalText why ≡ writtenLine (outcome (meaning written) room)
   refusal-line why e = same why ∙ ap (λ w. writtenLine (outcome (meaning w) room)) (sym e)
     where

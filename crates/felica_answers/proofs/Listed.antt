@@ -4,7 +4,7 @@ use Prim.Native.Nat.{ℕ}
 use mathlib.Core.Path.{◌≡◌, refl}
 use mathlib.Core.List.{List}
 use lib.ListN.{take}
-use Rattle.felica_command.specs.Meaning.{fields_of, refusalIs}
+use Rattle.felica_command.specs.Meaning.{fieldsOf, refusalIs}
 use Rattle.felica_command.specs.Lists.{listsIn}
 use Rattle.felica_command.specs.declared.command.FelicaStandardCommand.{FelicaStandardCommand}
 use Rattle.felica_command.specs.declared.command.Answer.{Answer}
@@ -22,8 +22,8 @@ refusal-line (OfCommand n code) = refl
 
 -- a result, whose lists are the fronts of the buffers
 module _ (answer : Answer) (first second numbers places modes : List ℕ) where
-  pub command-line : {kind : FelicaStandardCommand} {l : Lists} {code : ℕ} {a b n p m : List ℕ} → answer ≡ AnswerCommand kind → l ≡ listsIn (fields_of kind)
-      → code ≡ (fields_of kind).code → a ≡ take l.first_codes.count first → b ≡ take l.second_codes.count second
+  pub command-line : {kind : FelicaStandardCommand} {l : Lists} {code : ℕ} {a b n p m : List ℕ} → answer ≡ AnswerCommand kind → l ≡ listsIn (fieldsOf kind)
+      → code ≡ (fieldsOf kind).code → a ≡ take l.first_codes.count first → b ≡ take l.second_codes.count second
       → n ≡ take l.block_list.count numbers → p ≡ take l.block_list.count places → m ≡ take l.block_list.count modes
       → listsText code a b n p m ≡ listedText answer first second numbers places modes
   unfolding listedText

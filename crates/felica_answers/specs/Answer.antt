@@ -2,7 +2,7 @@
 -- Assumes nothing.
 use Rattle.std.specs.Prelude.{ℕ, Bool, true, false, List, [], ◌++◌}
 use Rattle.felica_command.specs.Types.{propertyIndex, nodePropertyByte, encryptionByte, packetByte}
-use Rattle.felica_command.specs.Meaning.{fields_of}
+use Rattle.felica_command.specs.Meaning.{fieldsOf}
 use Rattle.felica_command.specs.declared.command.FelicaStandardCommand.{FelicaStandardCommand}
 use Rattle.felica_command.specs.declared.command.FelicaStandardCommand.TheVariants.{Polling, RequestService, RequestResponse, ReadWithoutEncryption}
 use Rattle.felica_command.specs.declared.command.FelicaStandardCommand.TheVariants.{WriteWithoutEncryption, SearchServiceCode, RequestSystemCode}
@@ -37,42 +37,42 @@ row idm codes blocks fixed issuePackage =
     record { idm = idm; codes = codes; blocks = blocks; fixed = fixed; issuePackage = issuePackage }
 
 -- the fields of each command in their order, read in the payload s, with the 16 bytes beside the command
-unfoldable pub row_of : List ℕ → List ℕ → FelicaStandardCommand → Row
-row_of s ch (Polling system request slots) =
+unfoldable pub rowOf : List ℕ → List ℕ → FelicaStandardCommand → Row
+rowOf s ch (Polling system request slots) =
     row false [] [] (wordField " system=" system ++ (byteField " request=" request ++ byteField " slots=" slots)) []
-row_of s ch (RequestService codes) = row true (firstField s codes) [] [] []
-row_of s ch RequestResponse = row true [] [] [] []
-row_of s ch (ReadWithoutEncryption codes elements) = row true (firstField s codes) (blocksField s elements) [] []
-row_of s ch (WriteWithoutEncryption codes elements d) = row true (firstField s codes) (blocksField s elements ++ dataField s d) [] []
-row_of s ch (SearchServiceCode index) = row true [] [] (wordField " index=" index) []
-row_of s ch RequestSystemCode = row true [] [] [] []
-row_of s ch (RequestBlockInformation codes) = row true (firstField s codes) [] [] []
-row_of s ch (Authentication1 areas services) = row true (firstField s areas ++ secondField s services) [] (challenge8 ch) []
-row_of s ch Authentication2 = row true [] [] (challenge8 ch) []
-row_of s ch (Read elements) = row false [] (blocksField s elements) [] []
-row_of s ch (Write elements d) = row false [] (blocksField s elements ++ dataField s d) [] []
-row_of s ch (ReadV2 elements) = row false [] (blocksField s elements) [] []
-row_of s ch (WriteV2 elements d) = row false [] (blocksField s elements ++ dataField s d) [] []
-row_of s ch (RequestCodeList parent index) = row true [] [] (wordField " parent=" parent.0 ++ wordField " index=" index) []
-row_of s ch (RequestBlockInformationEx codes) = row true (firstField s codes) [] [] []
-row_of s ch (SetParameter encryption packet) =
+rowOf s ch (RequestService codes) = row true (firstField s codes) [] [] []
+rowOf s ch RequestResponse = row true [] [] [] []
+rowOf s ch (ReadWithoutEncryption codes elements) = row true (firstField s codes) (blocksField s elements) [] []
+rowOf s ch (WriteWithoutEncryption codes elements d) = row true (firstField s codes) (blocksField s elements ++ dataField s d) [] []
+rowOf s ch (SearchServiceCode index) = row true [] [] (wordField " index=" index) []
+rowOf s ch RequestSystemCode = row true [] [] [] []
+rowOf s ch (RequestBlockInformation codes) = row true (firstField s codes) [] [] []
+rowOf s ch (Authentication1 areas services) = row true (firstField s areas ++ secondField s services) [] (challenge8 ch) []
+rowOf s ch Authentication2 = row true [] [] (challenge8 ch) []
+rowOf s ch (Read elements) = row false [] (blocksField s elements) [] []
+rowOf s ch (Write elements d) = row false [] (blocksField s elements ++ dataField s d) [] []
+rowOf s ch (ReadV2 elements) = row false [] (blocksField s elements) [] []
+rowOf s ch (WriteV2 elements d) = row false [] (blocksField s elements ++ dataField s d) [] []
+rowOf s ch (RequestCodeList parent index) = row true [] [] (wordField " parent=" parent.0 ++ wordField " index=" index) []
+rowOf s ch (RequestBlockInformationEx codes) = row true (firstField s codes) [] [] []
+rowOf s ch (SetParameter encryption packet) =
     row true [] [] (byteField " encryption=" (encryptionByte encryption) ++ byteField " packet=" (packetByte packet)) []
-row_of s ch GetContainerIssueInformation = row true [] [] [] []
-row_of s ch (GetAreaInformation node) = row true [] [] (wordField " node=" node.0) []
-row_of s ch (GetNodeProperty type codes) = row true (byteField " type=" (nodePropertyByte type) ++ firstField s codes) [] [] []
-row_of s ch (GetContainerProperty property) = row false [] [] (wordField " property=" (propertyIndex property)) []
-row_of s ch (RequestServiceV2 codes) = row true (firstField s codes) [] [] []
-row_of s ch GetSystemStatus = row true [] [] [] []
-row_of s ch RequestProductInformation = row true [] [] [] []
-row_of s ch RequestSpecificationVersion = row true [] [] [] []
-row_of s ch ResetMode = row true [] [] [] []
-row_of s ch (Authentication1V2 operation codes) = row true (byteField " operation=" operation ++ firstField s codes) [] (challenge16 ch) []
-row_of s ch Authentication2V2 = row true [] [] (challenge16 ch) []
-row_of s ch GetContainerId = row false [] [] [] []
-row_of s ch (RegisterIssueId p) = row false [] [] (issueFields ch) (packageField s p)
-row_of s ch (RegisterArea area p) = row false [] [] (wordField " node=" area.0) (packageField s p)
-row_of s ch (RegisterService service p) = row false [] [] (wordField " node=" service.0) (packageField s p)
-row_of s ch ChangeSystemBlock = row false [] [] [] []
+rowOf s ch GetContainerIssueInformation = row true [] [] [] []
+rowOf s ch (GetAreaInformation node) = row true [] [] (wordField " node=" node.0) []
+rowOf s ch (GetNodeProperty type codes) = row true (byteField " type=" (nodePropertyByte type) ++ firstField s codes) [] [] []
+rowOf s ch (GetContainerProperty property) = row false [] [] (wordField " property=" (propertyIndex property)) []
+rowOf s ch (RequestServiceV2 codes) = row true (firstField s codes) [] [] []
+rowOf s ch GetSystemStatus = row true [] [] [] []
+rowOf s ch RequestProductInformation = row true [] [] [] []
+rowOf s ch RequestSpecificationVersion = row true [] [] [] []
+rowOf s ch ResetMode = row true [] [] [] []
+rowOf s ch (Authentication1V2 operation codes) = row true (byteField " operation=" operation ++ firstField s codes) [] (challenge16 ch) []
+rowOf s ch Authentication2V2 = row true [] [] (challenge16 ch) []
+rowOf s ch GetContainerId = row false [] [] [] []
+rowOf s ch (RegisterIssueId p) = row false [] [] (issueFields ch) (packageField s p)
+rowOf s ch (RegisterArea area p) = row false [] [] (wordField " node=" area.0) (packageField s p)
+rowOf s ch (RegisterService service p) = row false [] [] (wordField " node=" service.0) (packageField s p)
+rowOf s ch ChangeSystemBlock = row false [] [] [] []
 
 abbrev pub idmText : Bool → List ℕ → List ℕ
 idmText true idm = idmField idm
@@ -82,12 +82,12 @@ abbrev pub rowText : List ℕ → Row → List ℕ
 rowText idm r = idmText r.idm idm ++ (r.codes ++ (r.blocks ++ (r.fixed ++ r.issuePackage)))
 
 abbrev pub commandText : List ℕ → List ℕ → List ℕ → FelicaStandardCommand → List ℕ
-commandText s idm ch kind = text "OK " ++ (byteText (fields_of kind).code ++ rowText idm (row_of s ch kind))
+commandText s idm ch kind = text "OK " ++ (byteText (fieldsOf kind).code ++ rowText idm (rowOf s ch kind))
 
 abbrev pub answerText : List ℕ → List ℕ → List ℕ → Answer → List ℕ
 answerText s idm ch (AnswerCommand kind) = commandText s idm ch kind
 answerText s idm ch (AnswerRefused refusal) = refusalText refusal
 
 -- the line of a result for the payload s
-abbrev pub line_of : List ℕ → Parsed → List ℕ
-line_of s r = answerText s r.idm r.challenge r.answer
+abbrev pub lineOf : List ℕ → Parsed → List ℕ
+lineOf s r = answerText s r.idm r.challenge r.answer

@@ -2,7 +2,7 @@
 -- Assumes nothing.
 use Rattle.std.specs.Prelude.{ℕ, List, ◌++◌, take}
 use Rattle.felica_format.specs.Read.{Answer as Reading, gives, refused}
-use Rattle.felica_command.specs.Meaning.{Fields, fields_of}
+use Rattle.felica_command.specs.Meaning.{Fields, fieldsOf}
 use Rattle.felica_command.specs.declared.command.Answer.{Answer}
 use Rattle.felica_command.specs.declared.command.Answer.TheVariants.{Command as AnswerCommand, Refused as AnswerRefused}
 use Rattle.felica_text.specs.Text.{text, byteText}
@@ -27,5 +27,5 @@ frontsText f first second numbers places modes =
     (take f.elements.count places) (take f.elements.count modes)
 
 unfoldable pub listedText : Answer → List ℕ → List ℕ → List ℕ → List ℕ → List ℕ → List ℕ
-listedText (AnswerCommand kind) first second numbers places modes = frontsText (fields_of kind) first second numbers places modes
+listedText (AnswerCommand kind) first second numbers places modes = frontsText (fieldsOf kind) first second numbers places modes
 listedText (AnswerRefused why) first second numbers places modes = refusalText why

@@ -3,7 +3,7 @@ ghost use Rattle.std.specs.Prelude.{◌≡◌, List, ◌++◌, ℕ};
 ghost use Rattle.felica_command.specs.Types.{nodePropertyByte, encryptionByte, packetByte};
 ghost use Rattle.felica_put.specs.Put.{buffer, put};
 ghost use Rattle.felica_fields.specs.Field.{byteField, wordField, firstField, secondField, blocksField, dataField};
-ghost use Rattle.felica_answers.specs.Answer.{row_of, rowText, idmText};
+ghost use Rattle.felica_answers.specs.Answer.{rowOf, rowText, idmText};
 
 use felica_command::command::{FelicaStandardCommand as Command, Part};
 use felica_command::types::{NodePropertyType, SetParameterEncryptionType, SetParameterPacketType};
@@ -21,7 +21,7 @@ pub(crate) fn put_fields(
     idm: [u8; 8],
     challenge: [u8; 16],
 ) -> usize
-    ensures { buffer out.new result ≡ put (buffer out.old at) (rowText idm (row_of payload.now challenge command)) }
+    ensures { buffer out.new result ≡ put (buffer out.old at) (rowText idm (rowOf payload.now challenge command)) }
 {
     let codes_at = put_idm_of(out, at, command, idm);
     let blocks_at = put_codes_of(out, codes_at, payload, command);
@@ -30,8 +30,9 @@ pub(crate) fn put_fields(
     put_package_of(out, package_at, payload, command)
 }
 
+#[tactic(auto, unfolding(crate::specs::Answer::rowOf, felica_put::specs::Put::put))]
 fn put_idm_of(out: &mut [u8], at: usize, command: Command, idm: [u8; 8]) -> usize
-    ensures { (s ch : List ℕ) → buffer out.new result ≡ put (buffer out.old at) (idmText (row_of s ch command).idm idm) }
+    ensures { (s ch : List ℕ) → buffer out.new result ≡ put (buffer out.old at) (idmText (rowOf s ch command).idm idm) }
 {
     match command {
         Command::Polling { .. }
@@ -49,8 +50,9 @@ fn put_idm_of(out: &mut [u8], at: usize, command: Command, idm: [u8; 8]) -> usiz
     }
 }
 
+#[tactic(auto, unfolding(crate::specs::Answer::rowOf, felica_put::specs::Put::put))]
 fn put_codes_of(out: &mut [u8], at: usize, payload: &[u8], command: Command) -> usize
-    ensures { (ch : List ℕ) → buffer out.new result ≡ put (buffer out.old at) (row_of payload.now ch command).codes }
+    ensures { (ch : List ℕ) → buffer out.new result ≡ put (buffer out.old at) (rowOf payload.now ch command).codes }
 {
     match command {
         Command::RequestService { service_codes }
@@ -81,8 +83,9 @@ fn put_codes_of(out: &mut [u8], at: usize, payload: &[u8], command: Command) -> 
     }
 }
 
+#[tactic(auto, unfolding(crate::specs::Answer::rowOf, felica_put::specs::Put::put))]
 fn put_blocks_of(out: &mut [u8], at: usize, payload: &[u8], command: Command) -> usize
-    ensures { (ch : List ℕ) → buffer out.new result ≡ put (buffer out.old at) (row_of payload.now ch command).blocks }
+    ensures { (ch : List ℕ) → buffer out.new result ≡ put (buffer out.old at) (rowOf payload.now ch command).blocks }
 {
     match command {
         Command::ReadWithoutEncryption { block_list, .. }
@@ -102,7 +105,7 @@ fn put_blocks_of(out: &mut [u8], at: usize, payload: &[u8], command: Command) ->
 }
 
 fn put_fixed_of(out: &mut [u8], at: usize, command: Command, challenge: [u8; 16]) -> usize
-    ensures { (s : List ℕ) → buffer out.new result ≡ put (buffer out.old at) (row_of s challenge command).fixed }
+    ensures { (s : List ℕ) → buffer out.new result ≡ put (buffer out.old at) (rowOf s challenge command).fixed }
 {
     match command {
         Command::Polling {
@@ -132,8 +135,9 @@ fn put_fixed_of(out: &mut [u8], at: usize, command: Command, challenge: [u8; 16]
     }
 }
 
+#[tactic(auto, unfolding(crate::specs::Answer::rowOf, felica_put::specs::Put::put))]
 fn put_package_of(out: &mut [u8], at: usize, payload: &[u8], command: Command) -> usize
-    ensures { (ch : List ℕ) → buffer out.new result ≡ put (buffer out.old at) (row_of payload.now ch command).issuePackage }
+    ensures { (ch : List ℕ) → buffer out.new result ≡ put (buffer out.old at) (rowOf payload.now ch command).issuePackage }
 {
     match command {
         Command::RegisterIssueId { package }

@@ -1,5 +1,6 @@
 // The line that answers a call: what the parser, the list reader or the writer gives, or how many elements were long, written into a lent buffer.
 #![tactic(auto)]
+
 pub mod answer;
 mod fields;
 pub mod lists;

@@ -2,7 +2,6 @@
 -- Assumes nothing.
 use Rattle.std.specs.Prelude.{ℕ, List, [], ◌∷◌}
 use Rattle.std.proofs.Math.Option.{Option, none, some}
-use Rattle.felica_format.specs.Command.{Command}
 use Rattle.felica_format.specs.Read.{Answer as Reading, gives, refused}
 use Rattle.felica_command.specs.Places.{Places, readPlaces}
 use Rattle.felica_command.specs.declared.fixed.Fixed.{Fixed}
@@ -25,8 +24,8 @@ abbrev pub fixedFields : ℕ → ℕ → ℕ → ℕ → ℕ → List ℕ
 fixedFields selector number index option choice = selector ∷ number ∷ index ∷ option ∷ choice ∷ []
 
 -- start and count of first codes, second codes, block list, data and package, in the order of `parts`
-abbrev pub parts_of : Places → List ℕ
-parts_of q =
+abbrev pub partsOf : Places → List ℕ
+partsOf q =
     q.first.start ∷ q.first.count ∷ q.second.start ∷ q.second.count ∷ q.elements.start ∷ q.elements.count ∷ q.blockData.start ∷
     q.blockData.count ∷ q.issuePackage.start ∷ q.issuePackage.count ∷ []
 
@@ -51,7 +50,7 @@ codeOr0 (some code) = code
 abbrev pub telling : ℕ → List ℕ → Reading → Lent → Told
 telling at s (gives c long) m =
     told (answer 0 c.code long)
-    (lent c.idm c.challenge (fixedFields c.selector c.number c.index c.option c.choice) (parts_of (readPlaces at s (gives c long))))
+    (lent c.idm c.challenge (fixedFields c.selector c.number c.index c.option c.choice) (partsOf (readPlaces at s (gives c long))))
 telling at s (refused n code) m = told (answer n (codeOr0 code) 0) m
 
 -- the fixed fields that the writer is handed

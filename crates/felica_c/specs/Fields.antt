@@ -2,8 +2,7 @@
 -- stated by it, the functions for C by Boundary.antt.
 -- Assumes nothing.
 use Rattle.std.specs.Prelude.{ℕ, List}
-use Rattle.std.proofs.Math.Option.{Option, none, some}
-use Rattle.felica_command.specs.Meaning.{Fields, fields_of}
+use Rattle.felica_command.specs.Meaning.{Fields, fieldsOf}
 use Rattle.felica_command.specs.Places.{placesIn}
 use Rattle.felica_command.specs.declared.command.Refusal.{Refusal}
 use Rattle.felica_command.specs.declared.command.Refusal.TheVariants.{Number, OfCommand}
@@ -12,7 +11,7 @@ use Rattle.felica_command.specs.declared.command.Answer.TheVariants.{Command as 
 use Rattle.felica_command.specs.declared.command.Parsed.{Parsed}
 use Rattle.felica_c.specs.declared.answer.FelicaAnswer.{FelicaAnswer}
 use Rattle.felica_c.specs.declared.answer.FelicaWritten.{FelicaWritten}
-use Rattle.felica_c.specs.Boundary.{Lent, lent, fixedFields, parts_of, Told, told, answer}
+use Rattle.felica_c.specs.Boundary.{Lent, lent, fixedFields, partsOf, Told, told, answer}
 
 -- the code, and the two lists that `put_fields` writes
 pub record Put : Type 0 where
@@ -24,7 +23,7 @@ abbrev pub put : ℕ → List ℕ → List ℕ → Put
 put code fields parts = record { code = code; fields = fields; parts = parts }
 
 abbrev pub putFields : Fields → Put
-putFields f = put f.code (fixedFields f.selector f.number f.index f.option f.choice) (parts_of (placesIn f))
+putFields f = put f.code (fixedFields f.selector f.number f.index f.option f.choice) (partsOf (placesIn f))
 
 abbrev pub refusal : Refusal → ℕ
 refusal (Number n) = n
@@ -41,7 +40,7 @@ refusedAnswer (AnswerCommand kind) = answer 0 0 0
 
 abbrev pub tellAnswer : List ℕ → List ℕ → ℕ → Answer → Lent → Told
 tellAnswer idm challenge long (AnswerCommand kind) m =
-    told (answer 0 (putFields (fields_of kind)).code long) (lent idm challenge (putFields (fields_of kind)).fields (putFields (fields_of kind)).parts)
+    told (answer 0 (putFields (fieldsOf kind)).code long) (lent idm challenge (putFields (fieldsOf kind)).fields (putFields (fieldsOf kind)).parts)
 tellAnswer idm challenge long (AnswerRefused why) m = told (refusedAnswer (AnswerRefused why)) m
 
 abbrev pub tell : Parsed → Lent → Told

@@ -1,9 +1,9 @@
 // The fields of a command as numbers, in the order of `fields` and `parts` (include/felica.h), zero where the command lacks them. Each answers the command code.
 ghost use Rattle.std.specs.Prelude.{◌≡◌};
-ghost use Rattle.felica_command.specs.Meaning.{fields_of, fields as row, fixed, listed, blocks, packed, no_part};
+ghost use Rattle.felica_command.specs.Meaning.{fieldsOf, fields as row, fixed, listed, blocks, packed, noPart};
 ghost use Rattle.felica_command.specs.declared.types.ContainerProperty.TheVariants.{Property1};
 ghost use Rattle.felica_command.specs.Places.{places};
-ghost use Rattle.felica_c.specs.Boundary.{parts_of};
+ghost use Rattle.felica_c.specs.Boundary.{partsOf};
 ghost use Rattle.felica_c.specs.Fields.{put, putFields};
 
 use felica_command::command::{FelicaStandardCommand, Part};
@@ -16,7 +16,7 @@ pub(crate) fn put_fields(
     fields: &mut [u16; 5],
     parts: &mut [usize; 10],
 ) -> u8
-    ensures { put result fields.new parts.new ≡ putFields (fields_of command) }
+    ensures { put result fields.new parts.new ≡ putFields (fieldsOf command) }
 {
     match command {
         FelicaStandardCommand::Polling {
@@ -356,7 +356,7 @@ fn put_two_lists(
     first: Part,
     second: Part,
 ) -> u8
-    ensures { put result fields.new parts.new ≡ putFields (row code 0 first second no_part no_part 0 0 0 0 no_part Property1) }
+    ensures { put result fields.new parts.new ≡ putFields (row code 0 first second noPart noPart 0 0 0 0 noPart Property1) }
 {
     *fields = [0, 0, 0, 0, 0];
     put_parts(parts, first, second, NONE, NONE, NONE);
@@ -400,7 +400,7 @@ fn put_parts(
     data: Part,
     package: Part,
 )
-    ensures { parts.new ≡ parts_of (places first second block_list «data» «package») }
+    ensures { parts.new ≡ partsOf (places first second block_list «data» «package») }
 {
     *parts = [
         first.start,

@@ -1,5 +1,6 @@
 // The list reader for C: a payload. include/felica.h says what it promises in words.
 #![tactic(auto)]
+
 ghost use Rattle.std.specs.Prelude.{◌≡◌};
 ghost use Rattle.felica_format.specs.Read.{readPayload};
 ghost use Rattle.felica_lists.specs.Lists.{buffers, listed};

@@ -1,5 +1,6 @@
 // The parser for C: a frame. include/felica.h says what it promises in words.
 #![tactic(auto)]
+
 ghost use Rattle.std.specs.Prelude.{◌≡◌, drop};
 ghost use Rattle.felica_format.specs.Read.{readFrame};
 ghost use Rattle.felica_c.specs.Boundary.{lent, told, telling};

@@ -1,5 +1,6 @@
 // The parser for C: a payload. include/felica.h says what it promises in words.
 #![tactic(auto)]
+
 ghost use Rattle.std.specs.Prelude.{◌≡◌};
 ghost use Rattle.felica_format.specs.Read.{readPayload};
 ghost use Rattle.felica_c.specs.Boundary.{lent, told, telling};

@@ -1,5 +1,6 @@
 // The parser for C: a secure code with its decrypted payload. include/felica.h says what it promises in words.
 #![tactic(auto)]
+
 ghost use Rattle.std.specs.Prelude.{◌≡◌};
 ghost use Rattle.felica_format.specs.Read.{readSecure};
 ghost use Rattle.felica_c.specs.Boundary.{lent, told, telling};

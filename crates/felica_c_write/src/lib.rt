@@ -1,5 +1,6 @@
 // The writer for C. include/felica.h says what it promises in words.
 #![tactic(auto)]
+
 ghost use Rattle.std.specs.Prelude.{◌≡◌};
 ghost use Rattle.felica_command.specs.Handed.{handed};
 ghost use Rattle.felica_write.specs.Writing.{writing};

@@ -3,19 +3,19 @@
 use mathlib.Core.Path.{◌≡◌, refl, ap}
 use mathlib.Core.Bool.{Bool, true, false, not, cond}
 use mathlib.Core.List.{List}
-use Prim.Native.Nat.{ℕ, ◌-◌, ◌/◌, ◌%◌, ◌≤◌, zero-le}
+use Prim.Native.Nat.{ℕ, ◌/◌, ◌%◌, ◌≤◌, zero-le}
 use native.Mathlib.Omega.{arith}
 use lib.Dec.{ltb, eqb}
 use lib.ListN.{length, drop, length-append, length-drop}
 use borrow.Author.Tests.{ltb-false}
 use Rattle.felica_text.specs.Text.{text}
-use Rattle.felica_calls.specs.Field.{fieldOf, behindField, nextField, behindNext, is_byte, isName}
+use Rattle.felica_calls.specs.Field.{fieldOf, behindField, nextField, behindNext, isByte, isName}
 use Rattle.felica_calls.specs.Number.{allDecimal, decimalFrom, readNumber}
 use Rattle.felica_calls.specs.Sizes.{maxLent, Lent, ifNumber, nextSize, readSizes}
-use Rattle.felica_calls.specs.Bytes.{allDigits, bytes_of, Decoded, decoded, readBytes, readLast}
+use Rattle.felica_calls.specs.Bytes.{allDigits, bytesOf, Decoded, decoded, readBytes, readLast}
 use Rattle.felica_calls.specs.Source.{readSource, behindSource, readCommandCode}
 use Rattle.felica_calls.specs.Write.{maxRoom, writeWith}
-use Rattle.felica_calls.specs.Call.{Called, called, withBytes, asked_of, parseOf, longOf, listWith, list_of, readCall, count_of}
+use Rattle.felica_calls.specs.Call.{Called, called, withBytes, askedOf, parseOf, longOf, listWith, listOf, readCall, countOf}
 use Rattle.felica_calls.specs.declared.fault.Fault.{Fault}
 use Rattle.felica_calls.specs.declared.fault.Fault.TheVariants.{EmptyLine}
 use Rattle.felica_calls.specs.declared.number.Number.{Number}
@@ -81,21 +81,21 @@ countIs (WrongBytes fault) = 0
 abbrev Fit : Decoded → Type 0
 Fit d = countIs d.answer ≤ length d.buffer
 
-bytes_fit : (s held : List ℕ) → Fit (readBytes s held)
+bytes-fit : (s held : List ℕ) → Fit (readBytes s held)
 unfolding readBytes
-bytes_fit s held =
+bytes-fit s held =
     either Fit (eqb (length s) 0) _ _ (zero-le) λ a.
-    either Fit (is_byte 45 s) _ _ (zero-le) λ b.
+    either Fit (isByte 45 s) _ _ (zero-le) λ b.
     either Fit (not (allDigits s)) _ _ (zero-le) λ c.
     either Fit (eqb (length s % 2) 1) _ _ (zero-le) λ d.
     either Fit (ltb (length held) (length s / 2)) _ _ (zero-le) λ e.
-    omega (arith, ltb-false (length held) (length s / 2) e, length-append (bytes_of s) (drop (length s / 2) held), length-bytes s, length-drop (length s / 2) held)
+    omega (arith, ltb-false (length held) (length s / 2) e, length-append (bytesOf s) (drop (length s / 2) held), length-bytes s, length-drop (length s / 2) held)
 
-last_fit : (s held : List ℕ) → Fit (readLast s held)
+last-fit : (s held : List ℕ) → Fit (readLast s held)
 unfolding readLast
-last_fit s held =
+last-fit s held =
     either Fit (ltb (length (nextField s)) (length (drop 1 s))) _ _ (zero-le) λ b.
-    bytes_fit (drop 1 s) held
+    bytes-fit (drop 1 s) held
 
 abbrev pub CallLends : Call → Type 0
 CallLends (Parse source n) = Unit
@@ -105,36 +105,36 @@ CallLends (Write size c) = Unit
 CallLends (Wrong fault) = Unit
 
 record Fits (c : Called) : Type 0 where
-  count : count_of c.call ≤ length c.buffer
+  count : countOf c.call ≤ length c.buffer
   lends : CallLends c.call
 
 wrong-fits : (fault : Fault) (held : List ℕ) → Fits (called (Wrong fault) held)
 wrong-fits fault held = record { count = zero-le; lends = tt }
 
-bytes-call : (make : ℕ → Call) → ((n : ℕ) → count_of (make n) ≡ n) → ((n : ℕ) → CallLends (make n)) → (answer : Bytes) (held : List ℕ) → Fit (decoded answer held)
+bytes-call : (make : ℕ → Call) → ((n : ℕ) → countOf (make n) ≡ n) → ((n : ℕ) → CallLends (make n)) → (answer : Bytes) (held : List ℕ) → Fit (decoded answer held)
     → Fits (withBytes make (decoded answer held))
 bytes-call make same lends (Count n) held h = record { count = rw (same n) h; lends = lends n }
 bytes-call make same lends (WrongBytes fault) held h = wrong-fits fault held
 
-parse-fits : (found : SourceRead) (s held : List ℕ) → Fits (asked_of parseOf found s held)
+parse-fits : (found : SourceRead) (s held : List ℕ) → Fits (askedOf parseOf found s held)
 parse-fits (TheSource source) s held =
     let d = readLast (behindSource source s) held in
-    bytes-call (Parse source) (λ n. refl) (λ n. tt) d.answer d.buffer (last_fit (behindSource source s) held)
+    bytes-call (Parse source) (λ n. refl) (λ n. tt) d.answer d.buffer (last-fit (behindSource source s) held)
 parse-fits (WrongSource fault) s held = wrong-fits fault held
 
-long-fits : (found : SourceRead) (s held : List ℕ) → Fits (asked_of longOf found s held)
+long-fits : (found : SourceRead) (s held : List ℕ) → Fits (askedOf longOf found s held)
 long-fits (TheSource source) s held =
     let d = readLast (behindSource source s) held in
-    bytes-call (Long source) (λ n. refl) (λ n. tt) d.answer d.buffer (last_fit (behindSource source s) held)
+    bytes-call (Long source) (λ n. refl) (λ n. tt) d.answer d.buffer (last-fit (behindSource source s) held)
 long-fits (WrongSource fault) s held = wrong-fits fault held
 
 sized-fits : (source : Source) (found : SizesRead) (s held : List ℕ) → AllBelow found → Fits (listWith source found s held)
 sized-fits source (TheSizes z) s held l =
     let d = readBytes (nextField s) held in
-    bytes-call (λ n. ListCall source n z) (λ n. refl) (λ n. l) d.answer d.buffer (bytes_fit (nextField s) held)
+    bytes-call (λ n. ListCall source n z) (λ n. refl) (λ n. l) d.answer d.buffer (bytes-fit (nextField s) held)
 sized-fits source (WrongSizes fault) s held l = wrong-fits fault held
 
-list-fits : (found : SourceRead) (s held : List ℕ) → Fits (asked_of list_of found s held)
+list-fits : (found : SourceRead) (s held : List ℕ) → Fits (askedOf listOf found s held)
 list-fits (TheSource source) s held =
     sized-fits source (readSizes (behindNext (behindSource source s))) (behindSource source s) held (sizes-below (behindNext (behindSource source s)))
 list-fits (WrongSource fault) s held = wrong-fits fault held
@@ -144,18 +144,18 @@ write-fits (TheNumber size) (TheCode c) held = record { count = zero-le; lends =
 write-fits (TheNumber size) (WrongCode fault) held = wrong-fits fault held
 write-fits (WrongNumber fault) found held = wrong-fits fault held
 
-call_fits : (line held : List ℕ) → Fits (readCall line held)
+call-fits : (line held : List ℕ) → Fits (readCall line held)
 unfolding readCall
-call_fits line held =
+call-fits line held =
     either Fits (eqb (length line) 0) _ _ (wrong-fits EmptyLine held) λ a.
-    either Fits (is_byte 76 (fieldOf line)) _ _ (list-fits (readSource (drop 1 (behindField line))) (drop 1 (behindField line)) held) λ b.
-    either Fits (is_byte 87 (fieldOf line)) _ _ (write-fits (readNumber maxRoom (nextField (behindField line))) (readCommandCode (nextField (behindNext (behindField line)))) held) λ c.
+    either Fits (isByte 76 (fieldOf line)) _ _ (list-fits (readSource (drop 1 (behindField line))) (drop 1 (behindField line)) held) λ b.
+    either Fits (isByte 87 (fieldOf line)) _ _ (write-fits (readNumber maxRoom (nextField (behindField line))) (readCommandCode (nextField (behindNext (behindField line)))) held) λ c.
     either Fits (isName (text "LONG") (fieldOf line)) _ _ (long-fits (readSource (drop 1 (behindField line))) (drop 1 (behindField line)) held) λ d.
     parse-fits (readSource line) line held
 
 module _ (line held : List ℕ) {call : Call} {m : List ℕ} (e : called call m ≡ readCall line held) where
-  pub count-within : count_of call ≤ length m
-  count-within = rw (ap (λ c. c.call) e, ap (λ c. c.buffer) e) (call_fits line held).count
+  pub count-within : countOf call ≤ length m
+  count-within = rw (ap (λ c. c.call) e, ap (λ c. c.buffer) e) (call-fits line held).count
 
   pub sizes-within : CallLends call
-  sizes-within = rw (ap (λ c. c.call) e) (call_fits line held).lends
+  sizes-within = rw (ap (λ c. c.call) e) (call-fits line held).lends

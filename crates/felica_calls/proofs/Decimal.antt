@@ -8,7 +8,7 @@ use native.Mathlib.Omega.{arith}
 use lib.ListN.{length, get_or, drop, drop_of_length-le}
 use borrow.Author.Tests.{lt-ltb, le-ltb, eq-eqb, ne_eqb, le-leb, lt-leb, leb-true}
 use Rattle.felica_format.specs.Basic.{◌and◌}
-use Rattle.felica_format.proofs.Tests.{and_left, and_right}
+use Rattle.felica_format.proofs.Tests.{and-left, and-right}
 use Rattle.felica_put.proofs.Laws.{drop-next}
 use Rattle.felica_calls.specs.Number.{allDecimal, decimalFrom, readNumber}
 use Rattle.felica_calls.specs.declared.fault.Fault.TheVariants.{MissingField, NoNumber, BufferTooLong}
@@ -23,17 +23,17 @@ module _ (s : List ℕ) (i : ℕ) (h : i < length s) where
   unfolding allDecimal ◌and◌
   above-digits low k = rw (drop-next s i 0 h, le-leb _ _ low, lt-leb _ _ k)
 
-  pub decimal_digit : 48 ≤ get_or s i 0 → get_or s i 0 ≤ 57 → allDecimal (drop i s) ≡ allDecimal (drop (i + 1) s)
+  pub decimal-digit : 48 ≤ get_or s i 0 → get_or s i 0 ≤ 57 → allDecimal (drop i s) ≡ allDecimal (drop (i + 1) s)
   unfolding allDecimal ◌and◌
-  decimal_digit low high = rw (drop-next s i 0 h, le-leb _ _ low, le-leb _ _ high)
+  decimal-digit low high = rw (drop-next s i 0 h, le-leb _ _ low, le-leb _ _ high)
 
   -- what is known of a digit, and of those behind it
   pub digit-is : allDecimal (drop i s) ≡ true → (48 ≤ get_or s i 0) × (get_or s i 0 ≤ 57) × (allDecimal (drop (i + 1) s) ≡ true)
   unfolding allDecimal
   digit-is e =
       let all = rw (drop-next s i 0 h) at e in
-      let here = and_left _ _ all in
-      (leb-true _ _ (and_left _ _ here), leb-true _ _ (and_right _ _ here), and_right _ _ all)
+      let here = and-left _ _ all in
+      (leb-true _ _ (and-left _ _ here), leb-true _ _ (and-right _ _ here), and-right _ _ all)
 
   pub decimal-next : (n : ℕ) → decimalFrom n (drop i s) ≡ decimalFrom (10 * n + (get_or s i 0 - 48)) (drop (i + 1) s)
   unfolding decimalFrom
@@ -62,12 +62,12 @@ module _ (most : ℕ) (s : List ℕ) where
     unfolding readNumber
     number-long e h = rw (ne_eqb _ _ some, e, lt-ltb _ _ h)
 
-    pub number_is : {n : ℕ} → allDecimal s ≡ true → decimalFrom 0 s ≡ n → n ≤ most → readNumber most s ≡ TheNumber n
+    pub number-is : {n : ℕ} → allDecimal s ≡ true → decimalFrom 0 s ≡ n → n ≤ most → readNumber most s ≡ TheNumber n
     unfolding readNumber
-    number_is e same h = rw (ne_eqb _ _ some, e, same, le-ltb _ _ h)
+    number-is e same h = rw (ne_eqb _ _ some, e, same, le-ltb _ _ h)
 
     -- a digit with which it passes the greatest
-    pub number_past : (i n : ℕ) → allDecimal s ≡ true → i < length s → decimalFrom n (drop i s) ≡ decimalFrom 0 s → most < 10 * n + (get_or s i 0 - 48)
+    pub number-past : (i n : ℕ) → allDecimal s ≡ true → i < length s → decimalFrom n (drop i s) ≡ decimalFrom 0 s → most < 10 * n + (get_or s i 0 - 48)
         → readNumber most s ≡ Wrong BufferTooLong
-    number_past i n e h same past =
+    number-past i n e h same past =
         number-long e (omega (arith, same, decimal-next s i h n, decimal-least (10 * n + (get_or s i 0 - 48)) (drop (i + 1) s)))

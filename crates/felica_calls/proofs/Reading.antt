@@ -10,8 +10,8 @@ use lib.ListN.{length, get_or, take, drop, length-take, length-drop, drop_of_len
 use Rattle.felica_format.specs.Basic.{◌and◌}
 use Rattle.felica_format.proofs.Tests.{tests}
 use Rattle.felica_text.specs.Text.{digitOf, before}
-use Rattle.felica_calls.specs.Field.{is_byte, isName}
-use Rattle.felica_calls.specs.Bytes.{value_of, allDigits, byte_of, bytes_of, decoded, readBytes, readLast}
+use Rattle.felica_calls.specs.Field.{isName}
+use Rattle.felica_calls.specs.Bytes.{valueOf, allDigits, byteOf, bytesOf, decoded, readBytes, readLast}
 use Rattle.felica_calls.specs.Source.{readCommandCode}
 use Rattle.felica_calls.specs.declared.source.Code.TheVariants.{Code as TheCode, Wrong as WrongCode}
 use Rattle.felica_calls.specs.declared.fault.Fault.TheVariants.{MissingField, ExtraField, CodeSize, NoDigit as NotADigit}
@@ -19,48 +19,48 @@ use Rattle.felica_calls.specs.declared.bytes.Bytes.TheVariants.{Wrong as WrongBy
 use Rattle.felica_put.specs.Put.{buffer, put}
 use borrow.Author.Tests.{lt-ltb, le-ltb, eq-eqb, ne_eqb}
 use Rattle.felica_text.specs.declared.hex.Digit.TheVariants.{Value, NoDigit}
-use Rattle.felica_put.proofs.Laws.{drop-next, put_front}
+use Rattle.felica_put.proofs.Laws.{drop-next, put-front}
 
 -- a digit's value is below 16
 small : (d : ℕ) (a b c e : Bool) → ltb d 48 ≡ a → leb d 57 ≡ b → ltb d 65 ≡ c → leb d 70 ≡ e
-    → value_of (cond a NoDigit (cond b (Value (d - 48)) (cond c NoDigit (cond e (Value (d - 55)) NoDigit)))) < 16
+    → valueOf (cond a NoDigit (cond b (Value (d - 48)) (cond c NoDigit (cond e (Value (d - 55)) NoDigit)))) < 16
 small d true b c e ha hb hc he = omega arith
 small d false true c e ha hb hc he = omega tests
 small d false false true e ha hb hc he = omega arith
 small d false false false true ha hb hc he = omega tests
 small d false false false false ha hb hc he = omega arith
 
-pub value-small : (d : ℕ) → value_of (digitOf d) < 16
+pub value-small : (d : ℕ) → valueOf (digitOf d) < 16
 value-small d = small d (ltb d 48) (leb d 57) (ltb d 65) (leb d 70) refl refl refl refl
 
 module _ (s : List ℕ) (i : ℕ) where
-  pub no_digit : i < length s → digitOf (get_or s i 0) ≡ NoDigit → allDigits (drop i s) ≡ false
+  pub no-digit : i < length s → digitOf (get_or s i 0) ≡ NoDigit → allDigits (drop i s) ≡ false
   unfolding allDigits ◌and◌
-  no_digit h e = rw (drop-next s i 0 h, e)
+  no-digit h e = rw (drop-next s i 0 h, e)
 
   pub a-digit : {v : ℕ} → i < length s → digitOf (get_or s i 0) ≡ Value v → allDigits (drop i s) ≡ allDigits (drop (i + 1) s)
   unfolding allDigits ◌and◌
   a-digit h e = rw (drop-next s i 0 h, e)
 
-  pub bytes_next : 2 * i + 1 < length s
-      → bytes_of (drop (2 * i) s) ≡ byte_of (get_or s (2 * i) 0) (get_or s (2 * i + 1) 0) ∷ bytes_of (drop (2 * (i + 1)) s)
-  unfolding bytes_of
-  bytes_next h =
+  pub bytes-next : 2 * i + 1 < length s
+      → bytesOf (drop (2 * i) s) ≡ byteOf (get_or s (2 * i) 0) (get_or s (2 * i + 1) 0) ∷ bytesOf (drop (2 * (i + 1)) s)
+  unfolding bytesOf
+  bytes-next h =
       let h₀ : 2 * i < length s = omega arith in
       let e : 2 * i + 1 + 1 ≡ 2 * (i + 1) = omega arith in
       rw (drop-next s (2 * i) 0 h₀, drop-next s (2 * i + 1) 0 h, e)
 
-few : (s : List ℕ) → length s ≤ 1 → bytes_of s ≡ []
-unfolding bytes_of
+few : (s : List ℕ) → length s ≤ 1 → bytesOf s ≡ []
+unfolding bytesOf
 few [] h = refl
 few (d ∷ []) h = refl
 few (d ∷ e ∷ s) h = absurd (omega arith)
 
-pub bytes-end : (s : List ℕ) (i : ℕ) → length s / 2 ≤ i → bytes_of (drop (2 * i) s) ≡ []
+pub bytes-end : (s : List ℕ) (i : ℕ) → length s / 2 ≤ i → bytesOf (drop (2 * i) s) ≡ []
 bytes-end s i h = few (drop (2 * i) s) (omega (arith, length-drop (2 * i) s))
 
-pub length-bytes : (s : List ℕ) → length (bytes_of s) ≡ length s / 2
-unfolding bytes_of
+pub length-bytes : (s : List ℕ) → length (bytesOf s) ≡ length s / 2
+unfolding bytesOf
 length-bytes [] = refl
 length-bytes (d ∷ []) = refl
 length-bytes (d ∷ e ∷ s) = omega (arith, length-bytes s)
@@ -79,16 +79,6 @@ take-before b (x ∷ xs) = split b x xs (eqb x b) refl (take-before b xs)
 
 pub before-within : (b : ℕ) (s : List ℕ) → length (before b s) ≤ length s
 before-within b s = omega (arith, length-take (length (before b s)) s, ap length (take-before b s))
-
-pub byte-other : (b : ℕ) (s : List ℕ) → (length s ≡ 1 → ⊥) → is_byte b s ≡ false
-byte-other b [] h = refl
-byte-other b (d ∷ []) h = absurd (h refl)
-byte-other b (d ∷ e ∷ s) h = refl
-
-pub byte_one : (b : ℕ) (s : List ℕ) → length s ≡ 1 → is_byte b s ≡ eqb (get_or s 0 0) b
-byte_one b [] h = absurd (omega arith)
-byte_one b (d ∷ []) h = refl
-byte_one b (d ∷ e ∷ s) h = absurd (omega arith)
 
 -- a name of another size, and on a walk along the field
 pub name-size : (key s : List ℕ) → (length s ≡ length key → ⊥) → isName key s ≡ false
@@ -115,10 +105,6 @@ pub name-all : (key s : List ℕ) (i : ℕ) → length key ≤ i → length s �
 unfolding isName
 name-all key s i h k = rw (drop_of_length-le key h, drop_of_length-le s k)
 
-pub drop-none : (s : List ℕ) → length s ≡ 0 → s ≡ drop 1 s
-drop-none [] h = refl
-drop-none (d ∷ s) h = absurd (omega arith)
-
 pub code-missing : (s : List ℕ) → length s ≡ 0 → readCommandCode s ≡ WrongCode MissingField
 unfolding readCommandCode
 code-missing [] h = refl
@@ -132,7 +118,7 @@ code-size (d ∷ e ∷ []) h k = absurd (k refl)
 code-size (d ∷ e ∷ f ∷ s) h k = refl
 
 pub code-two : (s : List ℕ) → length s ≡ 2
-    → readCommandCode s ≡ cond (allDigits s) (TheCode (byte_of (get_or s 0 0) (get_or s 1 0))) (WrongCode NotADigit)
+    → readCommandCode s ≡ cond (allDigits s) (TheCode (byteOf (get_or s 0 0) (get_or s 1 0))) (WrongCode NotADigit)
 unfolding readCommandCode
 code-two [] h = absurd (omega arith)
 code-two (d ∷ []) h = absurd (omega arith)
@@ -140,10 +126,10 @@ code-two (d ∷ e ∷ []) h = refl
 code-two (d ∷ e ∷ f ∷ s) h = absurd (omega arith)
 
 -- the bytes decoded to a buffer with room for them
-pub decoded-front : (s l : List ℕ) {m : List ℕ} {n : ℕ} → length s / 2 ≤ length l → buffer m n ≡ put (buffer l 0) (bytes_of s)
-    → m ≡ bytes_of s ++ drop (length s / 2) l
+pub decoded-front : (s l : List ℕ) {m : List ℕ} {n : ℕ} → length s / 2 ≤ length l → buffer m n ≡ put (buffer l 0) (bytesOf s)
+    → m ≡ bytesOf s ++ drop (length s / 2) l
 decoded-front s l h e =
-    ap (λ b. b.bytes) (e ∙ put_front (bytes_of s) l (omega (arith, length-bytes s))) ∙ ap (λ n. bytes_of s ++ drop n l) (length-bytes s)
+    ap (λ b. b.bytes) (e ∙ put-front (bytesOf s) l (omega (arith, length-bytes s))) ∙ ap (λ n. bytesOf s ++ drop n l) (length-bytes s)
 
 -- the last field f, of which n bytes stand before a space
 module _ (s held f : List ℕ) {n : ℕ} (is : f ≡ drop 1 s) (found : n ≡ length (before 32 f)) where

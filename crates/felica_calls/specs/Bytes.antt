@@ -6,7 +6,7 @@ use Rattle.felica_format.specs.Basic.{◌and◌}
 use Rattle.felica_text.specs.Text.{digitOf}
 use Rattle.felica_text.specs.declared.hex.Digit.{Digit}
 use Rattle.felica_text.specs.declared.hex.Digit.TheVariants.{Value, NoDigit}
-use Rattle.felica_calls.specs.Field.{nextField, is_byte}
+use Rattle.felica_calls.specs.Field.{nextField, isByte}
 use Rattle.felica_calls.specs.declared.fault.Fault.TheVariants.{MissingField, ExtraField, NoDigit as NotADigit, OddDigits, TooManyBytes}
 use Rattle.felica_calls.specs.declared.bytes.Bytes.{Bytes}
 use Rattle.felica_calls.specs.declared.bytes.Bytes.TheVariants.{Count, Wrong as WrongBytes}
@@ -16,21 +16,21 @@ abbrev pub isDigit : Digit → Bool
 isDigit (Value v) = true
 isDigit NoDigit = false
 
-abbrev pub value_of : Digit → ℕ
-value_of (Value v) = v
-value_of NoDigit = 0
+abbrev pub valueOf : Digit → ℕ
+valueOf (Value v) = v
+valueOf NoDigit = 0
 
 unfoldable pub allDigits : List ℕ → Bool
 allDigits [] = true
 allDigits (d ∷ ds) = isDigit (digitOf d) and allDigits ds
 
-abbrev pub byte_of : ℕ → ℕ → ℕ
-byte_of high low = 16 * value_of (digitOf high) + value_of (digitOf low)
+abbrev pub byteOf : ℕ → ℕ → ℕ
+byteOf high low = 16 * valueOf (digitOf high) + valueOf (digitOf low)
 
-unfoldable pub bytes_of : List ℕ → List ℕ
-bytes_of [] = []
-bytes_of (d ∷ []) = []
-bytes_of (high ∷ low ∷ ds) = byte_of high low ∷ bytes_of ds
+unfoldable pub bytesOf : List ℕ → List ℕ
+bytesOf [] = []
+bytesOf (d ∷ []) = []
+bytesOf (high ∷ low ∷ ds) = byteOf high low ∷ bytesOf ds
 
 -- how many bytes there are, and what the lent buffer holds
 pub record Decoded : Type 0 where
@@ -44,11 +44,11 @@ decoded answer buffer = record { answer = answer; buffer = buffer }
 unfoldable pub readBytes : List ℕ → List ℕ → Decoded
 readBytes s buffer =
     cond (eqb (length s) 0) (decoded (WrongBytes MissingField) buffer)
-    (cond (is_byte (code "-") s) (decoded (Count 0) buffer)
+    (cond (isByte (code "-") s) (decoded (Count 0) buffer)
     (cond (not (allDigits s)) (decoded (WrongBytes NotADigit) buffer)
     (cond (eqb (length s % 2) 1) (decoded (WrongBytes OddDigits) buffer)
     (cond (ltb (length buffer) (length s / 2)) (decoded (WrongBytes TooManyBytes) buffer)
-    (decoded (Count (length s / 2)) (bytes_of s ++ drop (length s / 2) buffer))))))
+    (decoded (Count (length s / 2)) (bytesOf s ++ drop (length s / 2) buffer))))))
 
 -- the last field, with the space before it
 unfoldable pub readLast : List ℕ → List ℕ → Decoded

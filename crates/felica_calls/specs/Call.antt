@@ -3,7 +3,7 @@
 use Rattle.std.specs.Prelude.{ℕ, cond, List, length, drop, eqb}
 use Prim.Native.Char.{code}
 use Rattle.felica_text.specs.Text.{text}
-use Rattle.felica_calls.specs.Field.{fieldOf, behindField, nextField, behindNext, is_byte, isName}
+use Rattle.felica_calls.specs.Field.{fieldOf, behindField, nextField, behindNext, isByte, isName}
 use Rattle.felica_calls.specs.Bytes.{Decoded, readBytes, readLast}
 use Rattle.felica_calls.specs.Source.{readSource, behindSource}
 use Rattle.felica_calls.specs.Sizes.{readSizes}
@@ -36,9 +36,9 @@ withBytes make d = called (callIs d.answer) d.buffer
     callIs (WrongBytes fault) = Wrong fault
 
 -- what is asked of a source, by what follows it
-abbrev pub asked_of : (Source → List ℕ → List ℕ → Called) → SourceRead → List ℕ → List ℕ → Called
-asked_of ask (TheSource source) s buffer = ask source (behindSource source s) buffer
-asked_of ask (WrongSource fault) s buffer = called (Wrong fault) buffer
+abbrev pub askedOf : (Source → List ℕ → List ℕ → Called) → SourceRead → List ℕ → List ℕ → Called
+askedOf ask (TheSource source) s buffer = ask source (behindSource source s) buffer
+askedOf ask (WrongSource fault) s buffer = called (Wrong fault) buffer
 
 -- of the parser: the bytes are the last field
 abbrev pub parseOf : Source → List ℕ → List ℕ → Called
@@ -53,22 +53,22 @@ abbrev pub listWith : Source → SizesRead → List ℕ → List ℕ → Called
 listWith source (TheSizes z) s buffer = withBytes (λ n. ListCall source n z) (readBytes (nextField s) buffer)
 listWith source (WrongSizes fault) s buffer = called (Wrong fault) buffer
 
-abbrev pub list_of : Source → List ℕ → List ℕ → Called
-list_of source s buffer = listWith source (readSizes (behindNext s)) s buffer
+abbrev pub listOf : Source → List ℕ → List ℕ → Called
+listOf source s buffer = listWith source (readSizes (behindNext s)) s buffer
 
 -- a line, and what the buffer for the bytes holds before and after
 unfoldable pub readCall : List ℕ → List ℕ → Called
 readCall line buffer =
     cond (eqb (length line) 0) (called (Wrong EmptyLine) buffer)
-    (cond (is_byte (code "L") (fieldOf line)) (asked_of list_of (readSource (drop 1 (behindField line))) (drop 1 (behindField line)) buffer)
-    (cond (is_byte (code "W") (fieldOf line)) (called (writeOf (behindField line)) buffer)
-    (cond (isName (text "LONG") (fieldOf line)) (asked_of longOf (readSource (drop 1 (behindField line))) (drop 1 (behindField line)) buffer)
-    (asked_of parseOf (readSource line) line buffer))))
+    (cond (isByte (code "L") (fieldOf line)) (askedOf listOf (readSource (drop 1 (behindField line))) (drop 1 (behindField line)) buffer)
+    (cond (isByte (code "W") (fieldOf line)) (called (writeOf (behindField line)) buffer)
+    (cond (isName (text "LONG") (fieldOf line)) (askedOf longOf (readSource (drop 1 (behindField line))) (drop 1 (behindField line)) buffer)
+    (askedOf parseOf (readSource line) line buffer))))
 
 -- the bytes of a call
-abbrev pub count_of : Call → ℕ
-count_of (Parse source n) = n
-count_of (Long source n) = n
-count_of (ListCall source n z) = n
-count_of (Write size c) = 0
-count_of (Wrong fault) = 0
+abbrev pub countOf : Call → ℕ
+countOf (Parse source n) = n
+countOf (Long source n) = n
+countOf (ListCall source n z) = n
+countOf (Write size c) = 0
+countOf (Wrong fault) = 0

@@ -20,10 +20,10 @@ abbrev pub behindNext : List ℕ → List ℕ
 behindNext s = behindField (drop 1 s)
 
 -- whether a field is this one byte
-abbrev pub is_byte : ℕ → List ℕ → Bool
-is_byte b [] = false
-is_byte b (d ∷ []) = eqb d b
-is_byte b (d ∷ e ∷ ds) = false
+abbrev pub isByte : ℕ → List ℕ → Bool
+isByte b [] = false
+isByte b (d ∷ []) = eqb d b
+isByte b (d ∷ e ∷ ds) = false
 
 -- whether a field is this name
 unfoldable pub isName : List ℕ → List ℕ → Bool

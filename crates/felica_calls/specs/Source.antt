@@ -2,8 +2,8 @@
 -- Assumes nothing.
 use Rattle.std.specs.Prelude.{ℕ, cond, List, [], ◌∷◌, length, eqb}
 use Prim.Native.Char.{code}
-use Rattle.felica_calls.specs.Field.{fieldOf, behindField, nextField, behindNext, is_byte}
-use Rattle.felica_calls.specs.Bytes.{allDigits, byte_of}
+use Rattle.felica_calls.specs.Field.{fieldOf, behindField, nextField, behindNext, isByte}
+use Rattle.felica_calls.specs.Bytes.{allDigits, byteOf}
 use Rattle.felica_calls.specs.declared.fault.Fault.TheVariants.{UnknownCall, MissingField, CodeSize, NoDigit as NotADigit}
 use Rattle.felica_calls.specs.declared.source.Code.{Code}
 use Rattle.felica_calls.specs.declared.source.Code.TheVariants.{Code as TheCode, Wrong as WrongCode}
@@ -16,7 +16,7 @@ use Rattle.felica_calls.specs.declared.source.SourceRead.TheVariants.{Source as 
 unfoldable pub readCommandCode : List ℕ → Code
 readCommandCode [] = WrongCode MissingField
 readCommandCode (d ∷ []) = WrongCode CodeSize
-readCommandCode (d ∷ e ∷ []) = cond (allDigits (d ∷ e ∷ [])) (TheCode (byte_of d e)) (WrongCode NotADigit)
+readCommandCode (d ∷ e ∷ []) = cond (allDigits (d ∷ e ∷ [])) (TheCode (byteOf d e)) (WrongCode NotADigit)
 readCommandCode (d ∷ e ∷ f ∷ ds) = WrongCode CodeSize
 
 abbrev pub secureSource : Code → SourceRead
@@ -27,9 +27,9 @@ secureSource (WrongCode fault) = Wrong fault
 unfoldable pub readSource : List ℕ → SourceRead
 readSource s =
     cond (eqb (length s) 0) (Wrong MissingField)
-    (cond (is_byte (code "F") (fieldOf s)) (TheSource Frame)
-    (cond (is_byte (code "P") (fieldOf s)) (TheSource Payload)
-    (cond (is_byte (code "S") (fieldOf s)) (secureSource (readCommandCode (nextField (behindField s))))
+    (cond (isByte (code "F") (fieldOf s)) (TheSource Frame)
+    (cond (isByte (code "P") (fieldOf s)) (TheSource Payload)
+    (cond (isByte (code "S") (fieldOf s)) (secureSource (readCommandCode (nextField (behindField s))))
     (Wrong UnknownCall))))
 
 -- what follows the name, and the code of a secure payload

@@ -2,7 +2,7 @@
 ghost use Rattle.std.specs.Prelude.{◌≡◌};
 ghost use Rattle.felica_text.specs.Text.{digitOf};
 ghost use Rattle.felica_put.specs.Put.{buffer, put};
-ghost use Rattle.felica_calls.specs.Bytes.{decoded, readLast, readBytes, bytes_of, allDigits, byte_of, value_of};
+ghost use Rattle.felica_calls.specs.Bytes.{decoded, readLast, readBytes, bytesOf, allDigits, byteOf, valueOf};
 
 use crate::fault::Fault;
 use crate::field::{behind_space, is_byte};
@@ -53,7 +53,7 @@ pub(crate) fn read_bytes(field: &[u8], bytes: &mut [u8]) -> Bytes
 
 // Pairs of digits as bytes, as many as there is room for.
 pub fn decode(field: &[u8], bytes: &mut [u8]) -> usize
-    ensures { buffer bytes.new result ≡ put (buffer bytes.old 0) (bytes_of field.now) }
+    ensures { buffer bytes.new result ≡ put (buffer bytes.old 0) (bytesOf field.now) }
 {
     let count = field.len() / 2;
     let mut next = 0;
@@ -80,14 +80,14 @@ pub fn all_digits(field: &[u8]) -> bool
 }
 
 pub(crate) fn byte_of(high: u8, low: u8) -> u8
-    ensures { result ≡ byte_of high low }
+    ensures { result ≡ byteOf high low }
 {
     16 * value_of(high) + value_of(low)
 }
 
 // A digit's value; what is no digit counts as 0.
 pub fn value_of(digit: u8) -> u8
-    ensures { result ≡ value_of (digitOf digit) }
+    ensures { result ≡ valueOf (digitOf digit) }
 {
     let value = digit_value(digit);
     match value {

@@ -3,7 +3,7 @@ ghost use Rattle.std.specs.Prelude.{◌≡◌};
 ghost use Rattle.felica_calls.specs.Source.{readSource};
 ghost use Rattle.felica_calls.specs.Field.{nextField};
 ghost use Rattle.felica_calls.specs.Bytes.{readBytes};
-ghost use Rattle.felica_calls.specs.Call.{called, readCall, asked_of, parseOf, longOf, list_of, withBytes};
+ghost use Rattle.felica_calls.specs.Call.{called, readCall, askedOf, parseOf, longOf, listOf, withBytes};
 
 use crate::bytes::{Bytes, read_bytes, read_last};
 use crate::fault::Fault;
@@ -49,7 +49,7 @@ pub fn read_call(line: &[u8], bytes: &mut [u8]) -> Call
 
 // A call of the parser.
 fn read_parse(text: &[u8], bytes: &mut [u8]) -> Call
-    ensures { called result bytes.new ≡ asked_of parseOf (readSource text.now) text.now bytes.old }
+    ensures { called result bytes.new ≡ askedOf parseOf (readSource text.now) text.now bytes.old }
 {
     let found = read_source(text);
     match found {
@@ -70,7 +70,7 @@ fn parse_last(source: Source, rest: &[u8], bytes: &mut [u8]) -> Call
 
 // A call of the parser behind the name.
 fn read_long(text: &[u8], bytes: &mut [u8]) -> Call
-    ensures { called result bytes.new ≡ asked_of longOf (readSource text.now) text.now bytes.old }
+    ensures { called result bytes.new ≡ askedOf longOf (readSource text.now) text.now bytes.old }
 {
     let found = read_source(text);
     match found {
@@ -91,7 +91,7 @@ fn long_last(source: Source, rest: &[u8], bytes: &mut [u8]) -> Call
 
 // A call of the parser, then the lengths of the buffers for its lists.
 fn read_list(text: &[u8], bytes: &mut [u8]) -> Call
-    ensures { called result bytes.new ≡ asked_of list_of (readSource text.now) text.now bytes.old }
+    ensures { called result bytes.new ≡ askedOf listOf (readSource text.now) text.now bytes.old }
 {
     let found = read_source(text);
     match found {
@@ -102,7 +102,7 @@ fn read_list(text: &[u8], bytes: &mut [u8]) -> Call
 
 // No byte is read before the lengths are seen to be right.
 fn list_behind(source: Source, rest: &[u8], bytes: &mut [u8]) -> Call
-    ensures { called result bytes.new ≡ list_of source rest.now bytes.old }
+    ensures { called result bytes.new ≡ listOf source rest.now bytes.old }
 {
     let found = read_sizes(behind_next(rest));
     match found {

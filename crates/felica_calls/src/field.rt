@@ -1,6 +1,6 @@
 // The fields of a line, each behind one space.
 ghost use Rattle.std.specs.Prelude.{◌≡◌, drop};
-ghost use Rattle.felica_calls.specs.Field.{fieldOf, behindField, nextField, behindNext, is_byte, isName};
+ghost use Rattle.felica_calls.specs.Field.{fieldOf, behindField, nextField, behindNext, isByte, isName};
 
 use felica_text::find::find;
 
@@ -44,7 +44,7 @@ pub(crate) fn behind_next(rest: &[u8]) -> &[u8]
 
 // Whether a field is this one byte.
 pub fn is_byte(field: &[u8], byte: u8) -> bool
-    ensures { result ≡ is_byte byte field.now }
+    ensures { result ≡ isByte byte field.now }
 {
     if field.len() != 1 {
         return false;

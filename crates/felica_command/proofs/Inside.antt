@@ -12,9 +12,9 @@ use borrow.Author.Tests.{ltb-false}
 use Rattle.felica_format.specs.Basic.{Step, taken, refuse, bind, refuseIf}
 use Rattle.felica_format.specs.Command.{Element, Formed, EndFields}
 use Rattle.felica_format.specs.Layout.{Selector, noSelector, typeByte, anyByte, Codes, noCodes, ◌to◌, Ending, bytes, word, words, reserved, polling, parameter}
-use Rattle.felica_format.specs.Layout.{Behind, nothing, ignoredBytes, aPackage, Layout, layout_of, class_of}
-use Rattle.felica_format.specs.Read.{Counted, readBytes, readIdm, readSelector, readCount, words_of, readWords, readCodes, readShort, readLong, readElement, readEach}
-use Rattle.felica_format.specs.Read.{readElements, readData, size_of, readValues, tooLong, readEnding, readPackage, read_body, answer_of}
+use Rattle.felica_format.specs.Layout.{Behind, nothing, ignoredBytes, aPackage, Layout, layoutOf, classOf}
+use Rattle.felica_format.specs.Read.{Counted, readBytes, readIdm, readSelector, readCount, wordsOf, readWords, readCodes, readShort, readLong, readElement, readEach}
+use Rattle.felica_format.specs.Read.{readElements, readData, sizeOf, readValues, tooLong, readEnding, readPackage, readBody, answerOf}
 use Rattle.felica_format.specs.Read.{readPlainAs, readSecureAs, readPayload, readSecure}
 use Rattle.felica_format.specs.declared.classes.Class.{Class}
 use Rattle.felica_format.specs.declared.classes.Class.TheVariants.{Plain, Secure, Unknown}
@@ -58,16 +58,16 @@ unfolding readCount
 count-leaves missing outside least greatest [] n r h = absurd (none-taken h)
 count-leaves missing outside least greatest (b ∷ l) n r h = (sym (taken-rest (refuseIf-taken _ outside (taken b l) h)), omega arith)
 
-pub wordsOf-length : (n : ℕ) (s : List ℕ) → length (words_of n s) ≡ n
-unfolding words_of
+pub wordsOf-length : (n : ℕ) (s : List ℕ) → length (wordsOf n s) ≡ n
+unfolding wordsOf
 wordsOf-length zero s = refl
 wordsOf-length (suc n) s = ap suc (wordsOf-length n (drop 2 s))
 
 words-leave : (n : ℕ) (l v r : List ℕ) → readWords n l ≡ taken v r → Leaves (2 * n) l r × (length v ≡ n)
 unfolding readWords
 words-leave n l v r h =
-    let fits : 2 * n ≤ length l = ltb-false _ _ (refuseIf-passed _ 13 (taken (words_of n l) (drop (2 * n) l)) h) in
-    let is = refuseIf-taken _ 13 (taken (words_of n l) (drop (2 * n) l)) h in
+    let fits : 2 * n ≤ length l = ltb-false _ _ (refuseIf-passed _ 13 (taken (wordsOf n l) (drop (2 * n) l)) h) in
+    let is = refuseIf-taken _ 13 (taken (wordsOf n l) (drop (2 * n) l)) h in
     ((sym (taken-rest is), fits), ap length (sym (taken-value is)) ∙ wordsOf-length n l)
 
 codes-leaves : (missing outside : ℕ) (range : Codes) (l v r : List ℕ) → readCodes missing outside range l ≡ taken v r → Leaves (codesSize range (length v)) l r
@@ -167,7 +167,7 @@ unfolding readData
 data-leaves false m l v r h = rw (← taken-value h) (sym (taken-rest h), omega arith)
 data-leaves true m l v r h = let q = bytes-leave (16 * m) 17 l v r h in rw q.1 q.0
 
-values-leave : (e : Ending) (l : List ℕ) (v : EndFields) (r : List ℕ) → readValues e l ≡ taken v r → r ≡ drop (size_of e) l
+values-leave : (e : Ending) (l : List ℕ) (v : EndFields) (r : List ℕ) → readValues e l ≡ taken v r → r ≡ drop (sizeOf e) l
 unfolding readValues
 values-leave (bytes n) l v r h = sym (taken-rest h)
 values-leave word l v r h = sym (taken-rest h)
@@ -176,16 +176,16 @@ values-leave reserved l v r h = sym (taken-rest (refuseIf-taken _ 18 _ h))
 values-leave polling l v r h = sym (taken-rest (refuseIf-taken _ 20 _ (refuseIf-taken _ 19 _ h)))
 values-leave parameter l v r h = sym (taken-rest (refuseIf-taken _ 20 _ (refuseIf-taken _ 19 _ (refuseIf-taken _ 18 _ (refuseIf-taken _ 18 _ h)))))
 
-ending-leaves : (e : Ending) (b : Behind) (l : List ℕ) (v : EndFields) (r : List ℕ) → readEnding e b l ≡ taken v r → Leaves (size_of e) l r
+ending-leaves : (e : Ending) (b : Behind) (l : List ℕ) (v : EndFields) (r : List ℕ) → readEnding e b l ≡ taken v r → Leaves (sizeOf e) l r
 unfolding readEnding
 ending-leaves e b l v r h =
-    let rest = refuseIf-taken (ltb (length l) (size_of e)) 7 (refuseIf (tooLong b (size_of e) (length l)) 8 (readValues e l)) h in
-    (values-leave e l v r (refuseIf-taken _ 8 (readValues e l) rest), ltb-false _ _ (refuseIf-passed _ 7 (refuseIf (tooLong b (size_of e) (length l)) 8 (readValues e l)) h))
+    let rest = refuseIf-taken (ltb (length l) (sizeOf e)) 7 (refuseIf (tooLong b (sizeOf e) (length l)) 8 (readValues e l)) h in
+    (values-leave e l v r (refuseIf-taken _ 8 (readValues e l) rest), ltb-false _ _ (refuseIf-passed _ 7 (refuseIf (tooLong b (sizeOf e) (length l)) 8 (readValues e l)) h))
 
 -- the bytes of a block list, by its place
-blocks_at : (b : Bool) (s l : List ℕ) (at n : ℕ) → l ≡ drop at s → blocksSize b l 0 n ≡ blocksSize b s at n
-blocks_at false s l at n e = refl
-blocks_at true s l at n e = ap (λ (t : List ℕ). 1 + elementsSize n t) (ap (drop 1) e ∙ drop-drop 1 at s)
+blocks-at : (b : Bool) (s l : List ℕ) (at n : ℕ) → l ≡ drop at s → blocksSize b l 0 n ≡ blocksSize b s at n
+blocks-at false s l at n e = refl
+blocks-at true s l at n e = ap (λ (t : List ℕ). 1 + elementsSize n t) (ap (drop 1) e ∙ drop-drop 1 at s)
 
 -- a part between two places
 codes-inside : (range : Codes) (s : List ℕ) (at n : ℕ) → at + codesSize range n ≤ length s
@@ -217,9 +217,9 @@ pub took : {A B X : Type 0} (m : Step A) (next : A → List ℕ → Step B) {b :
     → ((a : A) (t : List ℕ) → m ≡ taken a t → next a t ≡ taken b r → X) → X
 took m next h go = let q = bind-taken m next h in go q.0 q.1 q.2 q.3
 
-body-inside : (code : ℕ) (l : Layout) (at : ℕ) (s body : List ℕ) (c : Counted) (rest : List ℕ) → Leaves at s body → read_body code l body ≡ taken c rest
+body-inside : (code : ℕ) (l : Layout) (at : ℕ) (s body : List ℕ) (c : Counted) (rest : List ℕ) → Leaves at s body → readBody code l body ≡ taken c rest
     → (c.command.code ≡ code) × Inside s (layoutPlaces l at s c.command)
-unfolding read_body layoutPlaces
+unfolding readBody layoutPlaces
 body-inside code l at s body c rest here h =
     took _ _ h λ idm s₁ h₁ k₁.
     took _ _ k₁ λ selector s₂ h₂ k₂.
@@ -236,7 +236,7 @@ body-inside code l at s body c rest here h =
     let here₅ = elements-leaves _ _ l.elements s₄ elements s₅ h₅ in
     let ns : List ℕ = map (λ (e : Element). e.number) (map (λ (f : Formed). f.element) elements) in
     let n : length ns ≡ length elements = length-map (map (λ (f : Formed). f.element) elements) (λ (e : Element). e.number) ∙ length-map elements (λ (f : Formed). f.element) in
-    let size = ap (blocksSize l.elements s₄ 0) (sym n) ∙ blocks_at l.elements s s₄ _ (length ns) p₄.0 in
+    let size = ap (blocksSize l.elements s₄ 0) (sym n) ∙ blocks-at l.elements s s₄ _ (length ns) p₄.0 in
     let p₅ = leaves-then _ _ s s₄ s₅ p₄ (subst (λ (k : ℕ). Leaves k s₄ s₅) size here₅) in
     let p₆ = leaves-then _ _ s s₅ s₆ p₅ (data-leaves l.blockData (length elements) s₅ blockData s₆ h₆) in
     let p₇ = leaves-then _ _ s s₆ s₇ p₆ (ending-leaves l.ending l.behind s₆ values s₇ h₇) in
@@ -252,32 +252,32 @@ body-inside code l at s body c rest here h =
     )
 
 -- a part that is not there
-pub none_inside : (s : List ℕ) → Inside s noPlaces
+pub none-inside : (s : List ℕ) → Inside s noPlaces
 unfolding elementsSize
-none_inside s = (omega arith, omega arith, omega arith, omega arith, omega arith)
+none-inside s = (omega arith, omega arith, omega arith, omega arith, omega arith)
 
-step-inside : (code at : ℕ) (s body : List ℕ) (x : Step Counted) → read_body code (layout_of code) body ≡ x → Leaves at s body
-    → Inside s (readPlaces at s (answer_of code x))
+step-inside : (code at : ℕ) (s body : List ℕ) (x : Step Counted) → readBody code (layoutOf code) body ≡ x → Leaves at s body
+    → Inside s (readPlaces at s (answerOf code x))
 step-inside code at s body (taken c rest) h here =
-    let q = body-inside code (layout_of code) at s body c rest here h in
-    subst (λ (k : ℕ). Inside s (layoutPlaces (layout_of k) at s c.command)) (sym q.0) q.1
-step-inside code at s body (refuse n) h here = none_inside s
+    let q = body-inside code (layoutOf code) at s body c rest here h in
+    subst (λ (k : ℕ). Inside s (layoutPlaces (layoutOf k) at s c.command)) (sym q.0) q.1
+step-inside code at s body (refuse n) h here = none-inside s
 
 plain-inside : (k : Class) (code : ℕ) (body : List ℕ) → Inside (code ∷ body) (readPlaces 1 (code ∷ body) (readPlainAs k code body))
-plain-inside Plain code body = step-inside code 1 (code ∷ body) body (read_body code (layout_of code) body) refl (refl, omega arith)
-plain-inside Secure code body = none_inside (code ∷ body)
-plain-inside Unknown code body = none_inside (code ∷ body)
+plain-inside Plain code body = step-inside code 1 (code ∷ body) body (readBody code (layoutOf code) body) refl (refl, omega arith)
+plain-inside Secure code body = none-inside (code ∷ body)
+plain-inside Unknown code body = none-inside (code ∷ body)
 
 pub payload-inside : PayloadInside
 unfolding readPayload
-payload-inside [] = none_inside []
-payload-inside (code ∷ body) = plain-inside (class_of code) code body
+payload-inside [] = none-inside []
+payload-inside (code ∷ body) = plain-inside (classOf code) code body
 
 secure-as-inside : (k : Class) (code : ℕ) (s : List ℕ) → Inside s (readPlaces 0 s (readSecureAs k code s))
-secure-as-inside Plain code s = none_inside s
-secure-as-inside Secure code s = step-inside code 0 s s (read_body code (layout_of code) s) refl (refl, omega arith)
-secure-as-inside Unknown code s = none_inside s
+secure-as-inside Plain code s = none-inside s
+secure-as-inside Secure code s = step-inside code 0 s s (readBody code (layoutOf code) s) refl (refl, omega arith)
+secure-as-inside Unknown code s = none-inside s
 
 pub secure-inside : SecureInside
 unfolding readSecure
-secure-inside code s = secure-as-inside (class_of code) code s
+secure-inside code s = secure-as-inside (classOf code) code s

@@ -1,6 +1,5 @@
 pub mod Typed
 pub mod Inside
 pub mod OneAccount
-pub mod NoLists
 pub mod Spots
 pub mod Settled

@@ -9,7 +9,7 @@ use lib.Dec.{eqb}
 use Rattle.felica_format.specs.Command.{Command}
 use Rattle.felica_format.specs.Read.{gives}
 use Rattle.felica_command.specs.Types.{propertyOf, propertyIndex}
-use Rattle.felica_command.specs.Meaning.{Fields, fields_of, commandIs, refusalIs, answerIs, CanonicalAnswer}
+use Rattle.felica_command.specs.Meaning.{Fields, fieldsOf, commandIs, refusalIs, answerIs, CanonicalAnswer}
 use Rattle.felica_command.specs.Places.{Places, placesIn, answerPlaces, OneAccount}
 use Rattle.felica_command.specs.declared.types.NodePropertyType.{NodePropertyType}
 use Rattle.felica_command.specs.declared.types.NodePropertyType.TheVariants.{ValueLimitedPurseService, MacCommunication}
@@ -73,28 +73,28 @@ kindWith code selector at number index option choice =
     cond (eqb code 0x84) (RegisterService (record { 0 = number }) at.issuePackage) (
     ChangeSystemBlock))))))))))))))))))))))))))))))))
 
-kind_of : Fields → FelicaStandardCommand
-kind_of f = kindWith f.code f.selector (placesIn f) f.number f.index f.option f.choice
+kindOf : Fields → FelicaStandardCommand
+kindOf f = kindWith f.code f.selector (placesIn f) f.number f.index f.option f.choice
 
 kind-same : {code code' selector selector' : ℕ} {at at' : Places} {number number' index index' option option' choice choice' : ℕ} → code ≡ code'
     → selector ≡ selector' → at ≡ at' → number ≡ number' → index ≡ index' → option ≡ option' → choice ≡ choice'
     → kindWith code selector at number index option choice ≡ kindWith code' selector' at' number' index' option' choice'
 kind-same a b c d e f g = rw (a, b, c, d, e, f, g)
 
-set_back : (a : SetParameterEncryptionType) (b : SetParameterPacketType) → kind_of (fields_of (SetParameter a b)) ≡ SetParameter a b
-unfolding kind_of kindWith
-set_back SrmType1 NodeCodeSize2 = refl
-set_back SrmType1 NodeCodeSize4 = refl
-set_back SrmType2 NodeCodeSize2 = refl
-set_back SrmType2 NodeCodeSize4 = refl
+set-back : (a : SetParameterEncryptionType) (b : SetParameterPacketType) → kindOf (fieldsOf (SetParameter a b)) ≡ SetParameter a b
+unfolding kindOf kindWith
+set-back SrmType1 NodeCodeSize2 = refl
+set-back SrmType1 NodeCodeSize4 = refl
+set-back SrmType2 NodeCodeSize2 = refl
+set-back SrmType2 NodeCodeSize4 = refl
 
-node-back : (a : NodePropertyType) (b : Part) → kind_of (fields_of (GetNodeProperty a b)) ≡ GetNodeProperty a b
-unfolding kind_of kindWith
+node-back : (a : NodePropertyType) (b : Part) → kindOf (fieldsOf (GetNodeProperty a b)) ≡ GetNodeProperty a b
+unfolding kindOf kindWith
 node-back ValueLimitedPurseService b = refl
 node-back MacCommunication b = refl
 
-kind-back : (k : FelicaStandardCommand) → (fields_of k).property ≡ propertyOf (propertyIndex (fields_of k).property) → kind_of (fields_of k) ≡ k
-unfolding kind_of kindWith
+kind-back : (k : FelicaStandardCommand) → (fieldsOf k).property ≡ propertyOf (propertyIndex (fieldsOf k).property) → kindOf (fieldsOf k) ≡ k
+unfolding kindOf kindWith
 kind-back (Polling a b c) h = refl
 kind-back (RequestService a) h = refl
 kind-back RequestResponse h = refl
@@ -111,7 +111,7 @@ kind-back (ReadV2 a) h = refl
 kind-back (WriteV2 a b) h = refl
 kind-back (RequestCodeList a b) h = refl
 kind-back (RequestBlockInformationEx a) h = refl
-kind-back (SetParameter a b) h = set_back a b
+kind-back (SetParameter a b) h = set-back a b
 kind-back GetContainerIssueInformation h = refl
 kind-back (GetAreaInformation a) h = refl
 kind-back (GetNodeProperty a b) h = node-back a b
@@ -137,10 +137,10 @@ parsed-same : {a a' : Answer} {idm idm' challenge challenge' : List ℕ} {long l
 parsed-same p q r u = rw (p, q, r, u)
 
 commands-one : (s idm idm' challenge challenge' : List ℕ) (long long' : ℕ) → long ≡ long' → (k k' : FelicaStandardCommand)
-    → commandIs s idm challenge (fields_of k) ≡ commandIs s idm' challenge' (fields_of k') → placesIn (fields_of k) ≡ placesIn (fields_of k')
-    → (fields_of k).property ≡ propertyOf (propertyIndex (fields_of k).property) → (fields_of k').property ≡ propertyOf (propertyIndex (fields_of k').property)
+    → commandIs s idm challenge (fieldsOf k) ≡ commandIs s idm' challenge' (fieldsOf k') → placesIn (fieldsOf k) ≡ placesIn (fieldsOf k')
+    → (fieldsOf k).property ≡ propertyOf (propertyIndex (fieldsOf k).property) → (fieldsOf k').property ≡ propertyOf (propertyIndex (fieldsOf k').property)
     → parsed (AnswerCommand k) idm challenge long ≡ parsed (AnswerCommand k') idm' challenge' long'
-unfolding kind_of
+unfolding kindOf
 commands-one s idm idm' challenge challenge' long long' count k k' e at h h' =
     let same = kind-same (ap (λ (c : Command). c.code) e) (ap (λ (c : Command). c.selector) e) at (ap (λ (c : Command). c.number) e)
     (ap (λ (c : Command). c.index) e) (ap (λ (c : Command). c.option) e) (ap (λ (c : Command). c.choice) e) in
@@ -156,18 +156,18 @@ no-refusal : (c : Command) (long : ℕ) (w : Refusal) → gives c long ≡ refus
 no-refusal c long (Number n) e = let z : ◌≡◌ {A = ℕ} 0 1 = cc in omega arith
 no-refusal c long (OfCommand n code) e = let z : ◌≡◌ {A = ℕ} 0 1 = cc in omega arith
 
-answers_one : (s idm idm' challenge challenge' : List ℕ) (long long' : ℕ) (a a' : Answer) → answerIs s idm challenge long a ≡ answerIs s idm' challenge' long' a'
+answers-one : (s idm idm' challenge challenge' : List ℕ) (long long' : ℕ) (a a' : Answer) → answerIs s idm challenge long a ≡ answerIs s idm' challenge' long' a'
     → answerPlaces a ≡ answerPlaces a' → CanonicalAnswer idm challenge long a → CanonicalAnswer idm' challenge' long' a'
     → parsed a idm challenge long ≡ parsed a' idm' challenge' long'
-answers_one s idm idm' challenge challenge' long long' (AnswerCommand k) (AnswerCommand k') e at h h' =
-    let same : commandIs s idm challenge (fields_of k) ≡ commandIs s idm' challenge' (fields_of k') = cc in
+answers-one s idm idm' challenge challenge' long long' (AnswerCommand k) (AnswerCommand k') e at h h' =
+    let same : commandIs s idm challenge (fieldsOf k) ≡ commandIs s idm' challenge' (fieldsOf k') = cc in
     let count : long ≡ long' = cc in
     commands-one s idm idm' challenge challenge' long long' count k k' same at h h'
-answers_one s idm idm' challenge challenge' long long' (AnswerCommand k) (AnswerRefused w) e at h h' = absurd (no-refusal _ _ w e)
-answers_one s idm idm' challenge challenge' long long' (AnswerRefused w) (AnswerCommand k) e at h h' = absurd (no-refusal _ _ w (sym e))
-answers_one s idm idm' challenge challenge' long long' (AnswerRefused w) (AnswerRefused w') e at h h' =
+answers-one s idm idm' challenge challenge' long long' (AnswerCommand k) (AnswerRefused w) e at h h' = absurd (no-refusal _ _ w e)
+answers-one s idm idm' challenge challenge' long long' (AnswerRefused w) (AnswerCommand k) e at h h' = absurd (no-refusal _ _ w (sym e))
+answers-one s idm idm' challenge challenge' long long' (AnswerRefused w) (AnswerRefused w') e at h h' =
     parsed-same (ap AnswerRefused (refusals-one w w' e)) (h.0 ∙ sym h'.0) (h.1 ∙ sym h'.1) (h.2 ∙ sym h'.2)
 
 pub one-account : OneAccount
 one-account s at reading r t (m, p, c) (m', p', c') =
-    answers_one s r.idm t.idm r.challenge t.challenge r.long t.long r.answer t.answer (m ∙ sym m') (p ∙ sym p') c c'
+    answers-one s r.idm t.idm r.challenge t.challenge r.long t.long r.answer t.answer (m ∙ sym m') (p ∙ sym p') c c'

@@ -13,7 +13,7 @@ use Rattle.felica_format.specs.Command.{Element, Formed}
 use Rattle.felica_format.specs.Read.{readData}
 use Rattle.felica_format.proofs.Steps.{refuseIf-passed}
 use Rattle.felica_command.proofs.Inside.{wordsOf-length}
-use Rattle.felica_command.specs.Meaning.{part, codesAt, formedAt, elementsAt, bytes_at}
+use Rattle.felica_command.specs.Meaning.{part, codesAt, formedAt, elementsAt, bytesAt}
 use Rattle.felica_command.specs.Places.{places, elementsSize}
 use Rattle.felica_command.specs.declared.command.Part.{Part}
 
@@ -32,15 +32,15 @@ elements-part s p n a b = part-eq p n _ a (sym (length-map (elementsAt s p) (λ 
 
 -- data that were taken are all there
 pub data-part : (s : List ℕ) (p : Part) (at blocks n : ℕ) (v r : List ℕ) → readData true blocks (drop at s) ≡ taken v r → p ≡ part at (16 * blocks) → at ≡ n
-    → p ≡ part n (length (bytes_at s p))
+    → p ≡ part n (length (bytesAt s p))
 unfolding readData
 data-part s p at blocks n v r took is e =
     let fits : 16 * blocks ≤ length (drop at s) = ltb-false _ _ (refuseIf-passed _ 17 (taken (take (16 * blocks) (drop at s)) (drop (16 * blocks) (drop at s))) took) in
-    let whole : length (bytes_at s p) ≡ 16 * blocks = rw is (length-take-le (16 * blocks) (drop at s) fits) in
+    let whole : length (bytesAt s p) ≡ 16 * blocks = rw is (length-take-le (16 * blocks) (drop at s) fits) in
     part-eq p n _ (ap (λ (x : Part). x.start) is ∙ e) (ap (λ (x : Part). x.count) is ∙ sym whole)
 
 -- the package is all that is left
-pub package-bytes : (s : List ℕ) (p : Part) (n : ℕ) → p ≡ part n (length (drop n s)) → bytes_at s p ≡ drop n s
+pub package-bytes : (s : List ℕ) (p : Part) (n : ℕ) → p ≡ part n (length (drop n s)) → bytesAt s p ≡ drop n s
 package-bytes s p n is = rw is (take_all (length (drop n s)) (drop n s) (omega arith))
 
 pub package-part : (s : List ℕ) (p : Part) (at n : ℕ) → p ≡ part at (length (drop at s)) → at ≡ n → p ≡ part n (length (drop at s))

@@ -1,6 +1,6 @@
 // The lists of a command, whichever command it is.
 ghost use Rattle.std.specs.Prelude.{◌≡◌};
-ghost use Rattle.felica_command.specs.Meaning.{fields_of};
+ghost use Rattle.felica_command.specs.Meaning.{fieldsOf};
 ghost use Rattle.felica_command.specs.Lists.{lists, listsIn};
 
 use crate::command::{FelicaStandardCommand, Part};
@@ -29,7 +29,7 @@ impl Lists {
 
 impl FelicaStandardCommand {
     pub fn lists(self) -> Lists
-        ensures { result ≡ listsIn (fields_of self) }
+        ensures { result ≡ listsIn (fieldsOf self) }
     {
         let none = Part { start: 0, count: 0 };
         match self {

@@ -11,10 +11,10 @@ use lib.Dec.{ltb, leb}
 use lib.ListN.{length, get_or, drop, length-drop, set, length-replicate, replicate-append-replicate}
 use lib.Seq.{drop-cons, drop-drop, paste, paste-suc, get_or-drop, drop_at}
 use borrow.Author.Tests.{ltb-false, leb-true, leb-false, lt-ltb, le-ltb, ne_eqb}
-use Rattle.felica_format.specs.Basic.{Step, taken, refuse, refuseIf, zeros, wordOf, word_at, ◌and◌}
+use Rattle.felica_format.specs.Basic.{Step, taken, refuse, refuseIf, zeros, wordOf, wordAt, ◌and◌}
 use Rattle.felica_format.specs.Command.{endFields, noFields}
 use Rattle.felica_format.specs.Layout.{Ending, bare, polling, nothing}
-use Rattle.felica_format.specs.Read.{words_of, readLong, readShort, readEnding, readValues, size_of, zeroAt, isTimeSlots}
+use Rattle.felica_format.specs.Read.{wordsOf, readLong, readShort, readEnding, readValues, sizeOf, zeroAt, isTimeSlots}
 use Rattle.felica_format.proofs.Steps.{none-taken}
 use Rattle.felica_command.specs.Places.{elementSize, elementsSize}
 use Rattle.felica_cursor.specs.Answers.{asStep, MovesTo, movedWith}
@@ -23,17 +23,17 @@ use Rattle.felica_cursor.specs.declared.answers.Moved.{Moved}
 use Rattle.felica_cursor.specs.declared.answers.Moved.TheVariants.{On, Refused as MovedRefused}
 
 -- the bytes left at a position, where there are one, two or three
-pub at_front : (s : List ℕ) (at : ℕ) → at < length s → drop at s ≡ get_or s at 0 ∷ drop (at + 1) s
-at_front s at h = drop-cons s at 0 h ∙ ap (λ (n : ℕ). get_or s at 0 ∷ drop n s) (sym (add-one at))
+pub at-front : (s : List ℕ) (at : ℕ) → at < length s → drop at s ≡ get_or s at 0 ∷ drop (at + 1) s
+at-front s at h = drop-cons s at 0 h ∙ ap (λ (n : ℕ). get_or s at 0 ∷ drop n s) (sym (add-one at))
 
 pub at-front-2 : (s : List ℕ) (at : ℕ) → at + 1 < length s → drop at s ≡ get_or s at 0 ∷ get_or s (at + 1) 0 ∷ drop (at + 2) s
 at-front-2 s at h =
-    at_front s at (omega arith) ∙ ap (λ (l : List ℕ). get_or s at 0 ∷ l) (at_front s (at + 1) h) ∙
+    at-front s at (omega arith) ∙ ap (λ (l : List ℕ). get_or s at 0 ∷ l) (at-front s (at + 1) h) ∙
     (let e : at + 1 + 1 ≡ at + 2 = omega arith in ap (λ (n : ℕ). get_or s at 0 ∷ get_or s (at + 1) 0 ∷ drop n s) e)
 
 pub at-front-3 : (s : List ℕ) (at : ℕ) → at + 2 < length s → drop at s ≡ get_or s at 0 ∷ get_or s (at + 1) 0 ∷ get_or s (at + 2) 0 ∷ drop (at + 3) s
 at-front-3 s at h =
-    at-front-2 s at (omega arith) ∙ ap (λ (l : List ℕ). get_or s at 0 ∷ get_or s (at + 1) 0 ∷ l) (at_front s (at + 2) h) ∙
+    at-front-2 s at (omega arith) ∙ ap (λ (l : List ℕ). get_or s at 0 ∷ get_or s (at + 1) 0 ∷ l) (at-front s (at + 2) h) ∙
     (let e : at + 2 + 1 ≡ at + 3 = omega arith in ap (λ (n : ℕ). get_or s at 0 ∷ get_or s (at + 1) 0 ∷ get_or s (at + 2) 0 ∷ drop n s) e)
 
 pub long-cut : (head : ℕ) (l : List ℕ) → length l < 2 → readLong head l ≡ refuse 16
@@ -42,10 +42,10 @@ long-cut head [] h = refl
 long-cut head (a ∷ []) h = refl
 long-cut head (a ∷ b ∷ l) h = absurd (omega arith)
 
-pub short_cut : (head : ℕ) (l : List ℕ) → length l < 1 → readShort head l ≡ refuse 15
+pub short-cut : (head : ℕ) (l : List ℕ) → length l < 1 → readShort head l ≡ refuse 15
 unfolding readShort
-short_cut head [] h = refl
-short_cut head (a ∷ l) h = absurd (omega arith)
+short-cut head [] h = refl
+short-cut head (a ∷ l) h = absurd (omega arith)
 
 -- how far the elements reach, one by one
 pub size-more : (s : List ℕ) (at next k n : ℕ) → k ≡ suc n → next ≡ at + elementSize (get_or s at 0)
@@ -60,9 +60,9 @@ unfolding elementsSize
 size-done s at k p = rw p (add-zero at)
 
 -- a turn of a loop that copies the bytes at a place to the front of d
-pub paste_more : (d s : List ℕ) (at : ℕ) (out : List ℕ) (i : ℕ) → i < length d → at + i < length s → out ≡ paste d 0 (drop at s) i
+pub paste-more : (d s : List ℕ) (at : ℕ) (out : List ℕ) (i : ℕ) → i < length d → at + i < length s → out ≡ paste d 0 (drop at s) i
     → set out i (get_or s (at + i) 0) ≡ paste d 0 (drop at s) (i + 1)
-paste_more d s at out i hd hs e =
+paste-more d s at out i hd hs e =
     let l : i < length (drop at s) = simp length-drop (omega arith) in
     rw (e, add-one, ← get_or-drop at s i 0)
     (ap (λ (k : ℕ). set (paste d 0 (drop at s) i) k (get_or (drop at s) i 0)) (sym (zero-add i)) ∙ paste-suc d 0 (drop at s) i 0 (rw zero-add hd) l)
@@ -77,9 +77,9 @@ drop-zeros k n h =
 pub zero-start : (s : List ℕ) (at n : ℕ) → zeroAt n s at ≡ zeroAt (n - 0) s (at + 0)
 zero-start s at n = rw (sub-zero, add-zero)
 
-pub zero_more : (s : List ℕ) (at n i : ℕ) → i < n → get_or s (at + i) 0 ≡ 0 → zeroAt (n - i) s (at + i) ≡ zeroAt (n - (i + 1)) s (at + (i + 1))
+pub zero-more : (s : List ℕ) (at n i : ℕ) → i < n → get_or s (at + i) 0 ≡ 0 → zeroAt (n - i) s (at + i) ≡ zeroAt (n - (i + 1)) s (at + (i + 1))
 unfolding ◌and◌
-zero_more s at n i h z =
+zero-more s at n i h z =
     let p : n - i ≡ suc (n - (i + 1)) = omega arith in
     let q : suc (at + i) ≡ at + (i + 1) = omega arith in
     rw (p, z) (ap (zeroAt (n - (i + 1)) s) q)
@@ -95,19 +95,19 @@ unfolding ◌and◌
 zero-drop zero at i s = refl
 zero-drop (suc n) at i s = rw (get_or-drop, zero-drop n at (suc i) s, add-suc)
 
-pub word-drop : (s : List ℕ) (at i : ℕ) → word_at (drop at s) i ≡ word_at s (at + i)
+pub word-drop : (s : List ℕ) (at i : ℕ) → wordAt (drop at s) i ≡ wordAt s (at + i)
 word-drop s at i = simp (get_or-drop, add-suc)
 
 -- the codes at a place: one, and those behind it
-pub words-next : (s : List ℕ) (at n k : ℕ) → n ≡ suc k → words_of n (drop at s) ≡ wordOf (get_or s at 0) (get_or s (at + 1) 0) ∷ words_of k (drop (at + 2) s)
-unfolding words_of
+pub words-next : (s : List ℕ) (at n k : ℕ) → n ≡ suc k → wordsOf n (drop at s) ≡ wordOf (get_or s at 0) (get_or s (at + 1) 0) ∷ wordsOf k (drop (at + 2) s)
+unfolding wordsOf
 words-next s at n k e =
     let here : at + 0 ≡ at = omega arith in
     rw (e, word-drop s at 0, here, add-one, drop-drop)
 
-pub no_words : (n : ℕ) (l : List ℕ) → n ≡ 0 → words_of n l ≡ []
-unfolding words_of
-no_words n l e = rw e
+pub no-words : (n : ℕ) (l : List ℕ) → n ≡ 0 → wordsOf n l ≡ []
+unfolding wordsOf
+no-words n l e = rw e
 
 -- the fixed bytes that end a layout, once they are measured
 refused-both : {A B : Type 0} (a b : Bool) (x : Step A) (y : Step B) (v : A) (l : List ℕ) (g : ℕ) → x ≡ taken v l
@@ -124,15 +124,15 @@ taken-both true b x y v r e = absurd (none-taken e)
 taken-both false true x y v r e = absurd (none-taken e)
 taken-both false false x y v r e = (refl, refl, refl)
 
-pub ending-refused : (e : Ending) (l : List ℕ) (g : ℕ) → measured (size_of e) l ≡ refuse g → readEnding e nothing l ≡ refuse g
+pub ending-refused : (e : Ending) (l : List ℕ) (g : ℕ) → measured (sizeOf e) l ≡ refuse g → readEnding e nothing l ≡ refuse g
 unfolding measured readEnding
 ending-refused e l g h =
-    refused-both (ltb (length l) (size_of e)) (ltb (size_of e) (length l)) (taken (size_of e) l) (readValues e l) (size_of e) l g refl h
+    refused-both (ltb (length l) (sizeOf e)) (ltb (sizeOf e) (length l)) (taken (sizeOf e) l) (readValues e l) (sizeOf e) l g refl h
 
-pub ending-taken : (e : Ending) (l : List ℕ) (v : ℕ) (r : List ℕ) → measured (size_of e) l ≡ taken v r → readEnding e nothing l ≡ readValues e l
+pub ending-taken : (e : Ending) (l : List ℕ) (v : ℕ) (r : List ℕ) → measured (sizeOf e) l ≡ taken v r → readEnding e nothing l ≡ readValues e l
 unfolding measured readEnding
 ending-taken e l v r h =
-    (taken-both (ltb (length l) (size_of e)) (ltb (size_of e) (length l)) (taken (size_of e) l) (readValues e l) v r h).2
+    (taken-both (ltb (length l) (sizeOf e)) (ltb (sizeOf e) (length l)) (taken (sizeOf e) l) (readValues e l) v r h).2
 
 measured-size : (n : ℕ) (l : List ℕ) (v : ℕ) (r : List ℕ) → measured n l ≡ taken v r → length l ≡ n
 unfolding measured

@@ -10,10 +10,10 @@ use lib.ListN.{length, drop}
 use borrow.Author.Tests.{le-ltb}
 use Rattle.felica_format.specs.Basic.{Step, taken, refuse, bind, refuseIf, zeros}
 use Rattle.felica_format.specs.Command.{Command, Formed, longCount, EndFields, endFields, commandOf, noFields}
-use Rattle.felica_format.specs.Layout.{noSelector, noCodes, bare, nothing, ignoredBytes, aPackage, Layout, layout_of}
-use Rattle.felica_format.specs.Read.{readIdm, readSelector, readCodes, readElements, readData, readEnding, readValues, readPackage, ifCodes, counted, read_body}
+use Rattle.felica_format.specs.Layout.{noSelector, noCodes, bare, nothing, ignoredBytes, aPackage, Layout, layoutOf}
+use Rattle.felica_format.specs.Read.{readIdm, readSelector, readCodes, readElements, readData, readEnding, readValues, readPackage, ifCodes, counted, readBody}
 use Rattle.felica_command.specs.Types.{propertyOf, propertyIndex}
-use Rattle.felica_command.specs.Meaning.{Fields, fields_of, commandIs, refusal}
+use Rattle.felica_command.specs.Meaning.{Fields, fieldsOf, commandIs, refusal}
 use Rattle.felica_command.specs.Places.{placesIn, layoutPlaces}
 use Rattle.felica_command.specs.declared.command.Answer.TheVariants.{Command as AnswerCommand}
 use Rattle.felica_command.specs.declared.command.FelicaStandardCommand.{FelicaStandardCommand}
@@ -37,7 +37,7 @@ unfolding bind
 stop k h = rw h
 
 -- the steps of a body, in field order
-pub body : (code : ℕ) (l : Layout) (s : List ℕ) → read_body code l s ≡ (bind (readIdm l.idm s) λ idm s₁.
+pub body : (code : ℕ) (l : Layout) (s : List ℕ) → readBody code l s ≡ (bind (readIdm l.idm s) λ idm s₁.
     bind (readSelector l.selector s₁) λ selector s₂.
     bind (readCodes 9 10 l.first s₂) λ first s₃.
     bind (readCodes 11 12 l.second s₃) λ second s₄.
@@ -46,7 +46,7 @@ pub body : (code : ℕ) (l : Layout) (s : List ℕ) → read_body code l s ≡ (
     bind (readEnding l.ending l.behind s₆) λ values s₇.
     bind (readPackage l.behind s₇) λ issuePackage s₈.
     taken (counted (commandOf code idm selector first second (map (λ b. b.element) blocks) blockData values issuePackage) (longCount blocks)) s₈)
-unfolding read_body
+unfolding readBody
 body code l s = refl
 
 -- parts that a layout lacks
@@ -92,17 +92,17 @@ pub data-counted : (es : List Formed) (n : ℕ) (l : List ℕ) {x : Step (List �
 data-counted es n l e h = rw e h
 
 -- a body that is refused
-pub refused-at : (s : List ℕ) (at code n g : ℕ) (l : Layout) (r : Parsed) → layout_of code ≡ l → read_body code l (drop at s) ≡ refuse n
+pub refused-at : (s : List ℕ) (at code n g : ℕ) (l : Layout) (r : Parsed) → layoutOf code ≡ l → readBody code l (drop at s) ≡ refuse n
     → g ≡ n → r ≡ refusal g (some code) → BodyRead s at code r
 refused-at s at code n g l r is walk ground e = rw (e, ground, is, walk) (refl, refl, (refl, refl, refl))
 
 -- a body that is accepted
 pub accepted-at : (s : List ℕ) (at code : ℕ) (l : Layout) (kind : FelicaStandardCommand) (f : Fields) (idm challenge : List ℕ) (long n : ℕ) (rest : List ℕ) (c : Command)
-    → long ≡ n → layout_of code ≡ l → fields_of kind ≡ f → read_body code l (drop at s) ≡ taken (counted c n) rest → commandIs s idm challenge f ≡ c → c.code ≡ code
+    → long ≡ n → layoutOf code ≡ l → fieldsOf kind ≡ f → readBody code l (drop at s) ≡ taken (counted c n) rest → commandIs s idm challenge f ≡ c → c.code ≡ code
     → placesIn f ≡ layoutPlaces l at s c → f.property ≡ propertyOf (propertyIndex f.property)
     → BodyRead s at code (record { answer = AnswerCommand kind; idm = idm; challenge = challenge; long = long })
 accepted-at s at code l kind f idm challenge long n rest c count is fields walk meant coded placed property =
-    rw (is, walk, fields) (rw (meant, count) refl, placed ∙ ap (λ (k : Layout). layoutPlaces k at s c) (sym (ap layout_of coded ∙ is)), property)
+    rw (is, walk, fields) (rw (meant, count) refl, placed ∙ ap (λ (k : Layout). layoutPlaces k at s c) (sym (ap layoutOf coded ∙ is)), property)
 
 -- what an answer says, as a step on the bytes s
 abbrev pub idmStep : List ℕ → List ℕ → Moved → Step (List ℕ)

@@ -4,7 +4,7 @@ use Rattle.std.specs.Prelude.{◌≡◌, ℕ, ◌+◌, ◌*◌, List, length, ge
 use Rattle.felica_format.specs.Basic.{Step, taken, refuseIf, zeros}
 use Rattle.felica_format.specs.Command.{Formed, longCount}
 use Rattle.felica_command.specs.declared.command.Part.{Part}
-use Rattle.felica_command.specs.Meaning.{part, codesAt, formedAt, bytes_at}
+use Rattle.felica_command.specs.Meaning.{part, codesAt, formedAt, bytesAt}
 use Rattle.felica_command.specs.Places.{elementSize, elementsSize}
 use Rattle.felica_cursor.specs.Answers.{Walked, onward, halted, asStep, Holds, listTaken, blockTaken, blocksTaken, longTaken}
 use Rattle.felica_cursor.specs.declared.answers.ListTaken.{ListTaken}
@@ -45,7 +45,7 @@ ElementsPlaced s start r =
 
 -- data: 16 bytes for each block
 abbrev pub dataTaken : List ℕ → ListTaken → Step (List ℕ)
-dataTaken s r = asStep s (reading (bytes_at s) (listTaken r))
+dataTaken s r = asStep s (reading (bytesAt s) (listTaken r))
 
 abbrev pub DataPlaced : ℕ → ℕ → ListTaken → Type 0
 DataPlaced start blocks r = Holds (λ p next. (p ≡ part start (16 * blocks)) × (next ≡ start + 16 * blocks)) (listTaken r)

@@ -1,10 +1,9 @@
 // A position in a payload, and the steps in front of the fixed bytes that end a layout. Each takes its bytes and hands the position back moved on, or refuses.
 // A position may be any number: from the payload's end on, nothing is left.
-ghost use Rattle.std.specs.Prelude.{◌≡◌, true, length, take, drop, ◌+◌, ◌-◌, ◌≤◌, ◌<◌};
-ghost use Rattle.felica_format.specs.Basic.{refuse, wordOf};
+ghost use Rattle.std.specs.Prelude.{◌≡◌, true, length, take, drop, ◌+◌, ◌≤◌};
+ghost use Rattle.felica_format.specs.Basic.{wordOf};
 ghost use Rattle.felica_format.specs.Layout.{◌to◌, typeByte, anyByte, boundsAt};
 ghost use Rattle.felica_format.specs.Read.{elementOf, readIdm, readSelector, readCount, readWords, readCodes, readElement, readEach, readElements, readData};
-ghost use Rattle.felica_command.specs.Places.{elementSize};
 ghost use Rattle.felica_command.specs.Types.{elementIs};
 ghost use Rattle.felica_cursor.specs.Answers.{asStep, MovesTo, idmTaken, byteTaken, propertyTypeTaken};
 ghost use Rattle.felica_cursor.specs.Steps.{IdmZero, codesTaken, CodesPlaced, elementTaken, ElementPlaced, elementsTaken};
@@ -250,27 +249,22 @@ impl Cursor {
         ElementTaken::Element(element(header, number), false, Cursor { at: at + 2 })
     }
 
-    // The elements behind their count. An element has two bytes at least, so the walk goes on while two are left; a long one may then lack its third. `taken` is the
-    // place of the last byte taken; behind such an element it is the payload's length.
-    fn take_elements(self, payload: &[u8], count: u8) -> BlocksTaken
-        requires { (0 < count) × (0 < self.at) × (self.at ≤ length payload.now) }
+    // The elements behind their count.
+    pub fn take_elements(self, payload: &[u8], count: u8) -> BlocksTaken
         ensures { (readEach count (drop self.at payload.now) ≡ elementsTaken payload.now result) × ElementsPlaced payload.now self.at result }
     {
         let start = self.at;
-        let limit = before_two(payload);
-        let mut taken = start - 1;
+        let mut at = start;
         let mut left = count;
         while 0 < left {
-            if limit <= taken {
-                return BlocksTaken::Refused(cut_off(payload, taken));
-            }
-            taken += element_size(payload[taken + 1]);
+            let cursor = Cursor { at: at };
+            let taken = cursor.take_element(payload);
+            let ElementTaken::Element(_, _, next) = taken else {
+                return BlocksTaken::Refused(taken.ground());
+            };
+            at = next.at;
             left -= 1;
         }
-        if payload.len() <= taken {
-            return BlocksTaken::Refused(error::LONG_BLOCK_NUMBER_MISSING);
-        }
-        let at = taken + 1;
         // A short element has two bytes, a long one three.
         let long = at - start - 2 * (count as usize);
         BlocksTaken::Blocks(
@@ -334,34 +328,4 @@ impl Cursor {
             Cursor { at: start + count },
         )
     }
-}
-
-// Two bytes are left behind every place before this one.
-fn before_two(payload: &[u8]) -> usize
-    ensures { result ≡ length payload.now - 2 }
-{
-    if payload.len() < 2 {
-        0
-    } else {
-        payload.len() - 2
-    }
-}
-
-// The bytes of an element, by its first.
-fn element_size(header: u8) -> usize
-    ensures { result ≡ elementSize header }
-{
-    3 - (header >> 7) as usize
-}
-
-// Why no element is whole behind a place with fewer than two bytes behind it. Only a long element that lacks its third byte takes the place to the payload's length.
-fn cut_off(payload: &[u8], taken: usize) -> u8
-    ensures { (length payload.now ≤ taken → result ≡ 16) × (taken < length payload.now → length payload.now < taken + 3 → readElement (drop (taken + 1) payload.now) ≡ refuse result) }
-{
-    if payload.len() <= taken {
-        return error::LONG_BLOCK_NUMBER_MISSING;
-    }
-    let cursor = Cursor { at: taken + 1 };
-    let element = cursor.take_element(payload);
-    element.ground()
 }

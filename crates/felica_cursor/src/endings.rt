@@ -1,6 +1,6 @@
 // The steps of the fixed bytes that end a layout. They are measured first, and only then are their values tested.
 ghost use Rattle.std.specs.Prelude.{◌≡◌, ◌++◌, ◌+◌, ◌-◌, ◌<◌, ◌≤◌, length, take, drop};
-ghost use Rattle.felica_format.specs.Basic.{zeros, word_at};
+ghost use Rattle.felica_format.specs.Basic.{zeros, wordAt};
 ghost use Rattle.felica_format.specs.Layout.{bare, bytes, word, words, reserved, polling, parameter, nothing, aPackage};
 ghost use Rattle.felica_format.specs.Read.{zeroAt, readValues, readEnding};
 ghost use Rattle.felica_command.specs.Meaning.{part};
@@ -20,7 +20,7 @@ use felica_format::error;
 // The two-byte number at a place.
 fn word_at(payload: &[u8], at: usize) -> u16
     requires { at + 2 ≤ length payload.now }
-    ensures { result ≡ word_at payload.now at }
+    ensures { result ≡ wordAt payload.now at }
 {
     word_of(payload[at], payload[at + 1])
 }

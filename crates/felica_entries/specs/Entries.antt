@@ -3,7 +3,7 @@
 -- Assumes nothing.
 use Rattle.std.specs.Prelude.{ℕ, ◌+◌, ◌*◌, ◌≤◌, ◌<◌, ◌≡◌, cond, List, length, get_or, drop, ltb, leb}
 use Rattle.std.proofs.Math.Option.{Option, some, none}
-use Rattle.felica_format.specs.Basic.{◌and◌, word_at, Step, taken, refuse, bind}
+use Rattle.felica_format.specs.Basic.{◌and◌, wordAt, Step, taken, refuse, bind}
 use Rattle.felica_format.specs.Command.{Formed}
 use Rattle.felica_format.specs.Read.{formed, readElement, readEach}
 use Rattle.felica_command.specs.Types.{elementIs}
@@ -20,18 +20,18 @@ use Rattle.felica_entries.specs.declared.BlockAt.TheVariants.{Element as Element
 
 -- none where the part has no such entry, or where its two bytes do not stand in the payload
 unfoldable pub codeEntry : List ℕ → Part → ℕ → Option ℕ
-codeEntry s p i = cond (ltb i p.count and leb (p.start + 2 * i + 2) (length s)) (some (word_at s (p.start + 2 * i))) none
+codeEntry s p i = cond (ltb i p.count and leb (p.start + 2 * i + 2) (length s)) (some (wordAt s (p.start + 2 * i))) none
 
-abbrev pub value_of : {A : Type 0} → Step A → Option A
-value_of (taken a rest) = some a
-value_of (refuse n) = none
+abbrev pub valueOf : {A : Type 0} → Step A → Option A
+valueOf (taken a rest) = some a
+valueOf (refuse n) = none
 
 -- the element behind i others
 abbrev pub elementBehind : ℕ → List ℕ → Step Formed
 elementBehind i l = bind (readEach i l) λ before rest. readElement rest
 
 unfoldable pub elementEntry : List ℕ → Part → ℕ → Option Formed
-elementEntry s p i = cond (ltb i p.count) (value_of (elementBehind i (drop p.start s))) none
+elementEntry s p i = cond (ltb i p.count) (valueOf (elementBehind i (drop p.start s))) none
 
 -- what each answer says
 abbrev pub wordFound : WordEntry → Option ℕ

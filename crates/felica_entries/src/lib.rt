@@ -1,5 +1,6 @@
 // One entry of a part, in its wrapper. A part may be any two numbers: an entry that does not stand inside the payload is none.
 #![tactic(auto)]
+
 ghost use Rattle.std.specs.Prelude.{◌≡◌};
 ghost use Rattle.felica_entries.specs.Entries.{codeEntry, elementEntry, wordFound, serviceCodeFound, nodeCodeFound, blockFound};
 

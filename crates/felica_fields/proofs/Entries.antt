@@ -8,22 +8,22 @@ use native.Mathlib.Omega.{arith}
 use lib.ListN.{length, get_or, drop, drop_of_length-le}
 use Rattle.felica_format.specs.Basic.{Step, taken, refuse, wordOf}
 use Rattle.felica_text.specs.Text.{text, behindCommas, parted}
-use Rattle.felica_fields.specs.Entries.{read_code, entriesOf}
+use Rattle.felica_fields.specs.Entries.{readCode, entriesOf}
 use Rattle.felica_put.proofs.Laws.{drop-next}
 
 module _ (s : List ℕ) (at : ℕ) where
-  pub code-none : length s ≤ at → read_code (drop at s) ≡ refuse 13
-  unfolding read_code
+  pub code-none : length s ≤ at → readCode (drop at s) ≡ refuse 13
+  unfolding readCode
   code-none h = rw (drop_of_length-le s h)
 
-  pub code-cut : at < length s → length s - at < 2 → read_code (drop at s) ≡ refuse 13
-  unfolding read_code
+  pub code-cut : at < length s → length s - at < 2 → readCode (drop at s) ≡ refuse 13
+  unfolding readCode
   code-cut h k =
       let last : length s ≤ at + 1 = omega arith in
       rw (drop-next s at 0 h, drop_of_length-le s last)
 
-  pub code-whole : 2 ≤ length s - at → read_code (drop at s) ≡ taken (wordOf (get_or s at 0) (get_or s (at + 1) 0)) (drop (at + 2) s)
-  unfolding read_code
+  pub code-whole : 2 ≤ length s - at → readCode (drop at s) ≡ taken (wordOf (get_or s at 0) (get_or s (at + 1) 0)) (drop (at + 2) s)
+  unfolding readCode
   code-whole h =
       let h₀ : at < length s = omega arith in
       let h₁ : at + 1 < length s = omega arith in

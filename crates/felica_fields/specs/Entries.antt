@@ -10,10 +10,10 @@ use Rattle.felica_fields.specs.declared.entry.CodeRead.{CodeRead}
 use Rattle.felica_fields.specs.declared.entry.CodeRead.TheVariants.{Code, None as NoCode}
 
 -- one code of a list; 13: code list cut off
-unfoldable pub read_code : List ℕ → Step ℕ
-read_code [] = refuse 13
-read_code (low ∷ []) = refuse 13
-read_code (low ∷ high ∷ s) = taken (wordOf low high) s
+unfoldable pub readCode : List ℕ → Step ℕ
+readCode [] = refuse 13
+readCode (low ∷ []) = refuse 13
+readCode (low ∷ high ∷ s) = taken (wordOf low high) s
 
 -- what the answer of a reader of one code says of the bytes s
 abbrev pub codeRead : List ℕ → CodeRead → Step ℕ
@@ -38,7 +38,7 @@ entriesOf read zero s = []
 entriesOf read (suc n) s = ifTaken (read s) (λ a rest. a ∷ entriesOf read n rest) []
 
 abbrev pub codesText : List ℕ → Part → List ℕ
-codesText s p = parted wordText (entriesOf read_code p.count (drop p.start s))
+codesText s p = parted wordText (entriesOf readCode p.count (drop p.start s))
 
 abbrev pub blocksText : List ℕ → Part → List ℕ
 blocksText s p = parted formedText (entriesOf readElement p.count (drop p.start s))

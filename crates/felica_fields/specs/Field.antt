@@ -2,7 +2,7 @@
 -- Assumes nothing.
 use Rattle.std.specs.Prelude.{ℕ, List, ◌++◌, take, drop}
 use Prim.Native.String.{String}
-use Rattle.felica_command.specs.Meaning.{bytes_at}
+use Rattle.felica_command.specs.Meaning.{bytesAt}
 use Rattle.felica_command.specs.declared.command.Part.{Part}
 use Rattle.felica_text.specs.Text.{text, byteText, wordText, nibbleText, bytesText, parted}
 use Rattle.felica_fields.specs.Entries.{codesText, blocksText}
@@ -37,10 +37,10 @@ abbrev pub blocksField : List ℕ → Part → List ℕ
 blocksField s p = text " blocks=" ++ blocksText s p
 
 abbrev pub dataField : List ℕ → Part → List ℕ
-dataField s p = bytesField " data=" (bytes_at s p)
+dataField s p = bytesField " data=" (bytesAt s p)
 
 abbrev pub packageField : List ℕ → Part → List ℕ
-packageField s p = bytesField " package=" (bytes_at s p)
+packageField s p = bytesField " package=" (bytesAt s p)
 
 -- the 16 bytes beside a command: the challenge of 10 and 12; of 40 and 42; the issue id and the issue parameter of 80
 abbrev pub challenge8 : List ℕ → List ℕ

@@ -1,6 +1,6 @@
 // The fields of an answer: a space, the name, `=` and the value. A name is passed with its space and its `=`.
 ghost use Rattle.std.specs.Prelude.{◌≡◌, ◌++◌};
-ghost use Rattle.felica_command.specs.Meaning.{bytes_at};
+ghost use Rattle.felica_command.specs.Meaning.{bytesAt};
 ghost use Rattle.felica_text.specs.Text.{byteText, wordText, nibbleText, bytesText, parted};
 ghost use Rattle.felica_put.specs.Put.{buffer, put};
 ghost use Rattle.felica_fields.specs.Entries.{codesText};
@@ -119,14 +119,14 @@ pub fn put_codes_field(out: &mut [u8], at: usize, name: &[u8], payload: &[u8], l
 }
 
 pub fn put_part_field(out: &mut [u8], at: usize, name: &[u8], payload: &[u8], part: Part) -> usize
-    ensures { buffer out.new result ≡ put (buffer out.old at) (name.now ++ bytesText (bytes_at payload.now part)) }
+    ensures { buffer out.new result ≡ put (buffer out.old at) (name.now ++ bytesText (bytesAt payload.now part)) }
 {
     put_hex_field(out, at, name, bytes_of(payload, part))
 }
 
 // The bytes of a part, as far as the payload has them.
 fn bytes_of(payload: &[u8], part: Part) -> &[u8]
-    ensures { result.now ≡ bytes_at payload.now part }
+    ensures { result.now ≡ bytesAt payload.now part }
 {
     let start = part.start;
     let count = part.count;

@@ -1,5 +1,6 @@
 // The fields of an answer and the text of a refusal, put into a lent buffer.
 #![tactic(auto)]
+
 mod entry;
 pub mod field;
 mod list;

@@ -4,7 +4,7 @@ ghost use Rattle.felica_format.specs.Read.{readElement};
 ghost use Rattle.felica_command.specs.Types.{elementIs};
 ghost use Rattle.felica_text.specs.Text.{wordText, behindCommas};
 ghost use Rattle.felica_put.specs.Put.{buffer, put};
-ghost use Rattle.felica_fields.specs.Entries.{read_code, elementText, formedText, entriesOf, codesText, blocksText};
+ghost use Rattle.felica_fields.specs.Entries.{readCode, elementText, formedText, entriesOf, codesText, blocksText};
 
 use crate::entry::{CodeRead, code_at};
 use felica_command::command::Part;
@@ -32,7 +32,7 @@ pub(crate) fn put_codes(out: &mut [u8], at: usize, payload: &[u8], list: Part) -
 }
 
 fn put_more_codes(out: &mut [u8], at: usize, payload: &[u8], start: usize, count: usize) -> usize
-    ensures { buffer out.new result ≡ put (buffer out.old at) (behindCommas wordText (entriesOf read_code count (drop start payload.now))) }
+    ensures { buffer out.new result ≡ put (buffer out.old at) (behindCommas wordText (entriesOf readCode count (drop start payload.now))) }
 {
     let mut next = at;
     let mut place = start;

@@ -10,11 +10,11 @@ use lib.ListN.{length, length-append, length-map}
 use borrow.Author.Tests.{eq-eqb}
 use Rattle.felica_format.specs.Basic.{Bytes, Step, taken, bind}
 use Rattle.felica_format.specs.Command.{Command, Element, Formed, longCount, elementsOf, endFieldsOf, commandOf}
-use Rattle.felica_format.specs.Layout.{Layout, bounds_of}
-use Rattle.felica_format.specs.Read.{Counted, counted, size_of, readElements, readEnding, readPackage, ifCodes, read_body}
+use Rattle.felica_format.specs.Layout.{Layout, boundsOf}
+use Rattle.felica_format.specs.Read.{Counted, counted, sizeOf, readElements, readEnding, readPackage, ifCodes, readBody}
 use Rattle.felica_format.specs.Write.{Forms, idmBytes, selectorBytes, codesBytes, eachBytes, longIn, elementsBytes, dataBytes, endingBytes, packageBytes, bodyBytes}
 use Rattle.felica_format.specs.Writable.{idmOk, selectorOk, codesOk, sameLength, oneLength, elementsOk, dataOk, rangesOf, endFieldsOk, packageOk, bodyOk}
-use Rattle.felica_format.proofs.Tests.{and_left, and_right, and_both}
+use Rattle.felica_format.proofs.Tests.{and-left, and-right, and-both}
 use Rattle.felica_format.proofs.Bytes.{allBelow-++, bytes-right}
 use Rattle.felica_format.proofs.Steps.{taken-value, taken-rest, bind-taken}
 use Rattle.felica_format.proofs.Laws.{Laws}
@@ -26,9 +26,9 @@ use Rattle.felica_format.proofs.Ending.{Left, ending-back, package-back, ending-
 
 -- each count fits a byte, and the fixed bytes fit the challenge
 pub record Narrow (l : Layout) : Type 0 where
-  pub first : (bounds_of l.first).greatest < 256
-  pub second : (bounds_of l.second).greatest < 256
-  pub ending : size_of l.ending ≤ 16
+  pub first : (boundsOf l.first).greatest < 256
+  pub second : (boundsOf l.second).greatest < 256
+  pub ending : sizeOf l.ending ≤ 16
 
 -- the ranges of a body, part by part
 pub record Fits (l : Layout) (c : Command) : Type 0 where
@@ -45,30 +45,30 @@ pub record Fits (l : Layout) (c : Command) : Type 0 where
 pub fits-of : (l : Layout) (c : Command) → bodyOk l c ≡ true → Fits l c
 unfolding bodyOk
 fits-of l c ok =
-    let ok₁ = and_right _ _ ok in
-    let ok₂ = and_right _ _ ok₁ in
-    let ok₃ = and_right _ _ ok₂ in
-    let ok₄ = and_right _ _ ok₃ in
-    let ok₅ = and_right _ _ ok₄ in
-    let ok₆ = and_right _ _ ok₅ in
-    let ok₇ = and_right _ _ ok₆ in
+    let ok₁ = and-right _ _ ok in
+    let ok₂ = and-right _ _ ok₁ in
+    let ok₃ = and-right _ _ ok₂ in
+    let ok₄ = and-right _ _ ok₃ in
+    let ok₅ = and-right _ _ ok₄ in
+    let ok₆ = and-right _ _ ok₅ in
+    let ok₇ = and-right _ _ ok₆ in
     record {
-      idm = and_left _ _ ok;
-      selector = and_left _ _ ok₁;
-      first = and_left _ _ ok₂;
-      second = and_left _ _ ok₃;
-      lists = and_left _ _ ok₄;
-      elements = and_left _ _ ok₅;
-      blockData = and_left _ _ ok₆;
-      values = and_left _ _ ok₇;
-      pack = and_right _ _ ok₇;
+      idm = and-left _ _ ok;
+      selector = and-left _ _ ok₁;
+      first = and-left _ _ ok₂;
+      second = and-left _ _ ok₃;
+      lists = and-left _ _ ok₄;
+      elements = and-left _ _ ok₅;
+      blockData = and-left _ _ ok₆;
+      values = and-left _ _ ok₇;
+      pack = and-right _ _ ok₇;
     }
 
 of-fits : (l : Layout) (c : Command) → Fits l c → bodyOk l c ≡ true
 unfolding bodyOk
 of-fits l c h =
-    and_both h.idm (and_both h.selector (and_both h.first (and_both h.second (and_both h.lists (and_both h.elements
-    (and_both h.blockData (and_both h.values h.pack)))))))
+    and-both h.idm (and-both h.selector (and-both h.first (and-both h.second (and-both h.lists (and-both h.elements
+    (and-both h.blockData (and-both h.values h.pack)))))))
 
 -- A walk that took something: what its first step took, and how the walk went on. What follows from that is handed over as a function, so that it
 -- speaks of variables and not of the terms that stand for them.
@@ -130,13 +130,13 @@ one-length : (es : List Element) (c : Command)
 unfolding sameLength
 one-length es c ns ps ms =
     rw (ns, ps, ms, length-map es (λ e. e.number), length-map es (λ e. e.place), length-map es (λ e. e.mode))
-    (and_both (eq-eqb (length es) (length es) refl) (eq-eqb (length es) (length es) refl))
+    (and-both (eq-eqb (length es) (length es) refl) (eq-eqb (length es) (length es) refl))
 
 module _ (l : Layout) (n : Narrow l) where
-  pub body_back : (forms : Forms) (c : Command) (rest : List ℕ) → bodyOk l c ≡ true → Left l.behind rest
-      → read_body c.code l (bodyBytes l forms c ++ rest) ≡ taken (counted c (longIn forms (elementsOf c))) rest
-  unfolding read_body bodyBytes bind
-  body_back forms c rest ok left =
+  pub body-back : (forms : Forms) (c : Command) (rest : List ℕ) → bodyOk l c ≡ true → Left l.behind rest
+      → readBody c.code l (bodyBytes l forms c ++ rest) ≡ taken (counted c (longIn forms (elementsOf c))) rest
+  unfolding readBody bodyBytes bind
+  body-back forms c rest ok left =
       let h = fits-of l c ok in
       let t₈ : List ℕ = packageBytes l.behind c.issuePackage ++ rest in
       let t₇ : List ℕ = endingBytes l.ending (endFieldsOf c) ++ t₈ in
@@ -161,8 +161,8 @@ module _ (l : Layout) (n : Narrow l) where
       )
       (ap (λ (d : Command). taken (counted d (longIn forms (elementsOf c))) rest) (command-of c h.lists)))
 
-  pub body-only : (code : ℕ) (s : List ℕ) (r : Counted) (rest : List ℕ) → Bytes s → read_body code l s ≡ taken r rest → Body l code s r rest
-  unfolding read_body bodyBytes
+  pub body-only : (code : ℕ) (s : List ℕ) (r : Counted) (rest : List ℕ) → Bytes s → readBody code l s ≡ taken r rest → Body l code s r rest
+  unfolding readBody bodyBytes
   body-only code s r rest small e =
       step (idm-laws l.idm) s _ small e λ idm s₁ ok₁ is₁ small₁ e₁.
       step (selector-laws l.selector) s₁ _ small₁ e₁ λ selector s₂ ok₂ is₂ small₂ e₂.
@@ -197,13 +197,13 @@ module _ (l : Layout) (n : Narrow l) where
   body-small forms c ok =
       let h = fits-of l c ok in
       simp allBelow-++
-      (and_both ((idm-laws l.idm).small c.idm h.idm)
-      (and_both ((selector-laws l.selector).small c.selector h.selector)
-      (and_both ((codes-laws 9 10 l.first n.first).small c.first h.first)
-      (and_both ((codes-laws 11 12 l.second n.second).small c.second h.second)
-      (and_both (elements-small l.elements forms (elementsOf c) h.elements)
-      (and_both ((data-laws l.blockData (length (elementsOf c))).small c.blockData h.blockData)
-      (and_both (ending-small l.ending (endFieldsOf c) h.values) (package-small l.behind c.issuePackage h.pack))))))))
+      (and-both ((idm-laws l.idm).small c.idm h.idm)
+      (and-both ((selector-laws l.selector).small c.selector h.selector)
+      (and-both ((codes-laws 9 10 l.first n.first).small c.first h.first)
+      (and-both ((codes-laws 11 12 l.second n.second).small c.second h.second)
+      (and-both (elements-small l.elements forms (elementsOf c) h.elements)
+      (and-both ((data-laws l.blockData (length (elementsOf c))).small c.blockData h.blockData)
+      (and-both (ending-small l.ending (endFieldsOf c) h.values) (package-small l.behind c.issuePackage h.pack))))))))
 
 -- a body is the same before and after its elements, whatever their forms
 unfoldable pub beforeElements : Layout → Command → List ℕ

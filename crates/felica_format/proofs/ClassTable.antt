@@ -9,7 +9,7 @@ use lib.Dec.{eqb}
 use borrow.Author.Tests.{ne_eqb}
 use Rattle.felica_format.specs.declared.classes.Class.{Class}
 use Rattle.felica_format.specs.declared.classes.Class.TheVariants.{Plain, Secure, Unknown}
-use Rattle.felica_format.specs.Layout.{plainRows, secureRows, has, class_of}
+use Rattle.felica_format.specs.Layout.{plainRows, secureRows, has, classOf}
 use Rattle.felica_format.proofs.Tables.{tableFrom, entry}
 
 classByte : Class → ℕ
@@ -27,16 +27,16 @@ byteClass-classByte Plain = refl
 byteClass-classByte Secure = refl
 
 pub byteClass-other : (n : ℕ) → (n ≡ 1 → ⊥) → (n ≡ 2 → ⊥) → byteClass n ≡ Unknown
-byteClass-other n not_plain not-secure = rw (ne_eqb n 1 not_plain, ne_eqb n 2 not-secure)
+byteClass-other n not-plain not-secure = rw (ne_eqb n 1 not-plain, ne_eqb n 2 not-secure)
 
 unfoldable pub classes : List ℕ
-unfolding tableFrom classByte class_of has plainRows secureRows
-classes = tableFrom (λ code. classByte (class_of code)) 0 256
+unfolding tableFrom classByte classOf has plainRows secureRows
+classes = tableFrom (λ code. classByte (classOf code)) 0 256
 
-pub class-at : (code : ℕ) → code < 256 → byteClass (get_or classes code 0) ≡ class_of code
+pub class-at : (code : ℕ) → code < 256 → byteClass (get_or classes code 0) ≡ classOf code
 unfolding classes
 class-at code h =
-    ap byteClass (entry (λ k. classByte (class_of k)) 0 256 code h) ∙ byteClass-classByte (class_of code)
+    ap byteClass (entry (λ k. classByte (classOf k)) 0 256 code h) ∙ byteClass-classByte (classOf code)
 
 -- how often a number stands in a table
 unfoldable pub count : ℕ → List ℕ → ℕ

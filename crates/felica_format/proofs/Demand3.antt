@@ -16,9 +16,9 @@ use Rattle.felica_format.specs.declared.classes.Class.{Class}
 use Rattle.felica_format.specs.declared.classes.Class.TheVariants.{Plain, Secure, Unknown}
 use Rattle.felica_format.specs.Basic.{Bytes, Step, taken, refuse}
 use Rattle.felica_format.specs.Command.{Command, elementsOf}
-use Rattle.felica_format.specs.Layout.{Layout, class_of, layout_of}
-use Rattle.felica_format.specs.Read.{Counted, counted, gives, refused, answer_of, readPlainAs, readSecureAs, read_body, readPayload, readFrame, readSecure}
-use Rattle.felica_format.specs.Write.{Forms, longBytes, longIn, bodyBytes, secureOf, frame_of}
+use Rattle.felica_format.specs.Layout.{Layout, classOf, layoutOf}
+use Rattle.felica_format.specs.Read.{Counted, counted, gives, refused, answerOf, readPlainAs, readSecureAs, readBody, readPayload, readFrame, readSecure}
+use Rattle.felica_format.specs.Write.{Forms, longBytes, longIn, bodyBytes, secureOf, frameOf}
 use Rattle.felica_format.specs.Writable.{bodyOk, fitsClass, writable, shortest, written}
 use Rattle.felica_format.specs.Demand3.{FrameGives, PayloadGives, HasFrame, HasPayload, MayFollow, Around, FramesAreChoices, PayloadsAreChoices}
 use Rattle.felica_format.specs.Demand3.{ShortFrameAccepted, ShortPayloadAccepted, OtherFramesLonger, OtherPayloadsLonger}
@@ -26,15 +26,15 @@ use Rattle.felica_format.specs.Demand3.{ShortFrameWritten, ShortPayloadWritten, 
 use Rattle.felica_format.specs.Demand3.{OneFormFrom256}
 use Rattle.felica_format.specs.Long.{FrameLongCounted, PayloadLongCounted, PlainLongCounted}
 use Rattle.felica_format.proofs.Steps.{not-given}
-use Rattle.felica_format.proofs.Tests.{tests, and_left, and_right, and_both}
+use Rattle.felica_format.proofs.Tests.{tests, and-left, and-right, and-both}
 use Rattle.felica_format.proofs.Bytes.{allBelow-++, head-below}
-use Rattle.felica_format.proofs.Elements.{by_form, SameOrLonger}
+use Rattle.felica_format.proofs.Elements.{by-form, SameOrLonger}
 use Rattle.felica_format.proofs.Ending.{Left, left-none, left-small}
-use Rattle.felica_format.proofs.Body.{Narrow, Body, body_back, body-only, body-small, body-longer, beforeElements, afterElements, body-around}
-use Rattle.felica_format.proofs.Rows.{plain_code, plain-layout, secure-layout, plain-left, secure-left, secure-follows}
+use Rattle.felica_format.proofs.Body.{Narrow, Body, body-back, body-only, body-small, body-longer, beforeElements, afterElements, body-around}
+use Rattle.felica_format.proofs.Rows.{plain-code, plain-layout, secure-layout, plain-left, secure-left, secure-follows}
 
 -- ── what was accepted ───────────────────────────────────────────────────────
-answer-gives : (code : ℕ) (m : Step Counted) (c : Command) (long : ℕ) → answer_of code m ≡ gives c long → (rest : List ℕ) × (m ≡ taken (counted c long) rest)
+answer-gives : (code : ℕ) (m : Step Counted) (c : Command) (long : ℕ) → answerOf code m ≡ gives c long → (rest : List ℕ) × (m ≡ taken (counted c long) rest)
 answer-gives code (taken r rest) c long e =
     let p : r.command ≡ c = cc in
     let q : r.long ≡ long = cc in
@@ -42,14 +42,14 @@ answer-gives code (taken r rest) c long e =
 answer-gives code (refuse n) c long e = absurd (not-given e)
 
 plain-gives : (k : Class) (code : ℕ) (s : List ℕ) (c : Command) (long : ℕ) → readPlainAs k code s ≡ gives c long
-    → (k ≡ Plain) × (rest : List ℕ) × (read_body code (layout_of code) s ≡ taken (counted c long) rest)
-plain-gives Plain code s c long e = let a = answer-gives code (read_body code (layout_of code) s) c long e in (refl, a.0, a.1)
+    → (k ≡ Plain) × (rest : List ℕ) × (readBody code (layoutOf code) s ≡ taken (counted c long) rest)
+plain-gives Plain code s c long e = let a = answer-gives code (readBody code (layoutOf code) s) c long e in (refl, a.0, a.1)
 plain-gives Secure code s c long e = absurd (not-given e)
 plain-gives Unknown code s c long e = absurd (not-given e)
 
 -- the length byte is right, the code plain, and its body was taken
 abbrev pub Opened : ℕ → ℕ → List ℕ → Counted → Type 0
-Opened n code body r = (n ≡ suc (suc (length body))) × (class_of code ≡ Plain) × (rest : List ℕ) × (read_body code (layout_of code) body ≡ taken r rest)
+Opened n code body r = (n ≡ suc (suc (length body))) × (classOf code ≡ Plain) × (rest : List ℕ) × (readBody code (layoutOf code) body ≡ taken r rest)
 
 pub frame-gives : (n code : ℕ) (body : List ℕ) (c : Command) (long : ℕ) → readFrame (n ∷ code ∷ body) ≡ gives c long → Opened n code body (counted c long)
 unfolding readFrame readPayload
@@ -57,12 +57,12 @@ frame-gives n code body c long e = go (eqb n (suc (suc (length body)))) refl e
   where
     go : (b : Bool) → eqb n (suc (suc (length body))) ≡ b → cond b (readPayload (code ∷ body)) (refused 2 none) ≡ gives c long → Opened n code body (counted c long)
     go false size e = absurd (not-given e)
-    go true size e = let g = plain-gives (class_of code) code body c long e in (eqb-true _ _ size, g.0, g.1, g.2)
+    go true size e = let g = plain-gives (classOf code) code body c long e in (eqb-true _ _ size, g.0, g.1, g.2)
 
 secure-gives : (k : Class) (code : ℕ) (s : List ℕ) (c : Command) (long : ℕ) → readSecureAs k code s ≡ gives c long
-    → (k ≡ Secure) × (rest : List ℕ) × (read_body code (layout_of code) s ≡ taken (counted c long) rest)
+    → (k ≡ Secure) × (rest : List ℕ) × (readBody code (layoutOf code) s ≡ taken (counted c long) rest)
 secure-gives Plain code s c long e = absurd (not-given e)
-secure-gives Secure code s c long e = let a = answer-gives code (read_body code (layout_of code) s) c long e in (refl, a.0, a.1)
+secure-gives Secure code s c long e = let a = answer-gives code (readBody code (layoutOf code) s) c long e in (refl, a.0, a.1)
 secure-gives Unknown code s c long e = absurd (not-given e)
 
 -- an accepted body is a choice of forms of its command, with what is left behind it
@@ -70,16 +70,16 @@ record Accepted (k : Class) (code : ℕ) (s : List ℕ) (c : Command) : Type 0 w
   forms : Forms
   rest : List ℕ
   same : c.code ≡ code
-  class : class_of c.code ≡ k
-  ok : bodyOk (layout_of c.code) c ≡ true
-  left : Left (layout_of c.code).behind rest
-  is : s ≡ bodyBytes (layout_of c.code) forms c ++ rest
+  class : classOf c.code ≡ k
+  ok : bodyOk (layoutOf c.code) c ≡ true
+  left : Left (layoutOf c.code).behind rest
+  is : s ≡ bodyBytes (layoutOf c.code) forms c ++ rest
 
-accepted : (k : Class) (code : ℕ) (s : List ℕ) (c : Command) (long : ℕ) (rest : List ℕ) → class_of code ≡ k → Narrow (layout_of code) → Bytes s
-    → read_body code (layout_of code) s ≡ taken (counted c long) rest → Accepted k code s c
-accepted k code s c long rest class narrow small e = go (body-only (layout_of code) narrow code s (counted c long) rest small e)
+accepted : (k : Class) (code : ℕ) (s : List ℕ) (c : Command) (long : ℕ) (rest : List ℕ) → classOf code ≡ k → Narrow (layoutOf code) → Bytes s
+    → readBody code (layoutOf code) s ≡ taken (counted c long) rest → Accepted k code s c
+accepted k code s c long rest class narrow small e = go (body-only (layoutOf code) narrow code s (counted c long) rest small e)
   where
-    go : Body (layout_of code) code s (counted c long) rest → Accepted k code s c
+    go : Body (layoutOf code) code s (counted c long) rest → Accepted k code s c
     go b =
         let back = sym b.same in
         record {
@@ -87,24 +87,24 @@ accepted k code s c long rest class narrow small e = go (body-only (layout_of co
           rest = rest;
           same = b.same;
           class = rw b.same class;
-          ok = subst (λ (x : ℕ). bodyOk (layout_of x) c ≡ true) back b.ok;
-          left = subst (λ (x : ℕ). Left (layout_of x).behind rest) back b.left;
-          is = subst (λ (x : ℕ). s ≡ bodyBytes (layout_of x) b.forms c ++ rest) back b.is;
+          ok = subst (λ (x : ℕ). bodyOk (layoutOf x) c ≡ true) back b.ok;
+          left = subst (λ (x : ℕ). Left (layoutOf x).behind rest) back b.left;
+          is = subst (λ (x : ℕ). s ≡ bodyBytes (layoutOf x) b.forms c ++ rest) back b.is;
         }
 
 -- ── frames ──────────────────────────────────────────────────────────────────
 record Framed (s : List ℕ) (c : Command) : Type 0 where
   forms : Forms
-  class : class_of c.code ≡ Plain
-  ok : bodyOk (layout_of c.code) c ≡ true
-  is : s ≡ frame_of forms c
+  class : classOf c.code ≡ Plain
+  ok : bodyOk (layoutOf c.code) c ≡ true
+  is : s ≡ frameOf forms c
   short : length s ≤ 255
 
 framed-by : (n code : ℕ) (body : List ℕ) (c : Command) → n ≡ suc (suc (length body)) → n < 256 → Accepted Plain code body c → Framed (n ∷ code ∷ body) c
-unfolding frame_of
+unfolding frameOf
 framed-by n code body c size small a =
     let none : a.rest ≡ [] = plain-left c.code a.rest a.class a.left in
-    let is : body ≡ bodyBytes (layout_of c.code) a.forms c = a.is ∙ rw (none, append-nil) in
+    let is : body ≡ bodyBytes (layoutOf c.code) a.forms c = a.is ∙ rw (none, append-nil) in
     record {
       forms = a.forms;
       class = a.class;
@@ -124,27 +124,27 @@ framed (n ∷ []) c (small, long, e) = absurd (empty (eqb n 1) e)
 framed (n ∷ code ∷ body) c (small, long, e) =
     let (size, class, rest, read) = frame-gives n code body c long e in
     framed-by n code body c size (head-below 256 n (code ∷ body) small)
-    (accepted Plain code body c long rest class (plain-layout code class) (and_right _ _ (and_right _ _ small)) read)
+    (accepted Plain code body c long rest class (plain-layout code class) (and-right _ _ (and-right _ _ small)) read)
 
-frame_back : (forms : Forms) (c : Command) → class_of c.code ≡ Plain → bodyOk (layout_of c.code) c ≡ true → length (frame_of forms c) ≤ 255 → FrameGives (frame_of forms c) c
-unfolding readFrame readPayload frame_of
-frame_back forms c class ok short =
-    let l : Layout = layout_of c.code in
+frame-back : (forms : Forms) (c : Command) → classOf c.code ≡ Plain → bodyOk (layoutOf c.code) c ≡ true → length (frameOf forms c) ≤ 255 → FrameGives (frameOf forms c) c
+unfolding readFrame readPayload frameOf
+frame-back forms c class ok short =
+    let l : Layout = layoutOf c.code in
     let b : List ℕ = bodyBytes l forms c in
     let narrow = plain-layout c.code class in
-    let code = plain_code c.code class in
+    let code = plain-code c.code class in
     let long : ℕ = longIn forms (elementsOf c) in
-    let r : read_body c.code l b ≡ taken (counted c long) [] = rw append-nil at (body_back l narrow forms c [] ok (left-none l.behind)) in (
-      and_both (omega tests) (and_both (omega tests) (body-small l narrow forms c ok)),
+    let r : readBody c.code l b ≡ taken (counted c long) [] = rw append-nil at (body-back l narrow forms c [] ok (left-none l.behind)) in (
+      and-both (omega tests) (and-both (omega tests) (body-small l narrow forms c ok)),
       long,
       rw (eq-eqb (suc (suc (length b))) (suc (suc (length b))) refl, class, r),
     )
 
-frame-longer : (forms : Forms) (c : Command) → SameOrLonger (frame_of forms c) (frame_of [] c)
-unfolding frame_of
-frame-longer forms c = go (body-longer (layout_of c.code) forms c)
+frame-longer : (forms : Forms) (c : Command) → SameOrLonger (frameOf forms c) (frameOf [] c)
+unfolding frameOf
+frame-longer forms c = go (body-longer (layoutOf c.code) forms c)
   where
-    go : SameOrLonger (bodyBytes (layout_of c.code) forms c) (bodyBytes (layout_of c.code) [] c) → SameOrLonger (frame_of forms c) (frame_of [] c)
+    go : SameOrLonger (bodyBytes (layoutOf c.code) forms c) (bodyBytes (layoutOf c.code) [] c) → SameOrLonger (frameOf forms c) (frameOf [] c)
     go (inl p) = inl (rw p)
     go (inr p) = inr (omega arith)
 
@@ -156,40 +156,40 @@ longer : (other short : List ℕ) → SameOrLonger other short → other ≢ sho
 longer other short (inl p) h = absurd (h p)
 longer other short (inr p) h = p
 
-short-fits : (s : List ℕ) (c : Command) → Framed s c → length (frame_of [] c) ≤ 255
+short-fits : (s : List ℕ) (c : Command) → Framed s c → length (frameOf [] c) ≤ 255
 short-fits s c f =
-    let least = not-shorter (frame_of f.forms c) (frame_of [] c) (frame-longer f.forms c) in
-    let len : length s ≡ length (frame_of f.forms c) = ap length f.is in
+    let least = not-shorter (frameOf f.forms c) (frameOf [] c) (frame-longer f.forms c) in
+    let len : length s ≡ length (frameOf f.forms c) = ap length f.is in
     omega (arith, f.short, least, len)
 
 frame-around : (s : List ℕ) (c : Command) → Framed s c
-    → Around c (length s ∷ c.code ∷ beforeElements (layout_of c.code) c) (afterElements (layout_of c.code) c) s
-unfolding frame_of
+    → Around c (length s ∷ c.code ∷ beforeElements (layoutOf c.code) c) (afterElements (layoutOf c.code) c) s
+unfolding frameOf
 frame-around s c f =
-    let same : length s ≡ length (frame_of f.forms c) = ap length f.is in
-    (f.forms, rw same (f.is ∙ ap (λ (b : List ℕ). length (frame_of f.forms c) ∷ c.code ∷ b) (body-around (layout_of c.code) f.forms c f.ok)))
+    let same : length s ≡ length (frameOf f.forms c) = ap length f.is in
+    (f.forms, rw same (f.is ∙ ap (λ (b : List ℕ). length (frameOf f.forms c) ∷ c.code ∷ b) (body-around (layoutOf c.code) f.forms c f.ok)))
 
 -- ── secure payloads ─────────────────────────────────────────────────────────
 secured : (code : ℕ) (s : List ℕ) (c : Command) → PayloadGives code s c → Accepted Secure code s c
 unfolding readSecure
 secured code s c (small, long, e) =
-    let g = secure-gives (class_of code) code s c long e in
+    let g = secure-gives (classOf code) code s c long e in
     accepted Secure code s c long g.1 g.0 (secure-layout code g.0) small g.2
 
-payload-back : (forms : Forms) (c : Command) (rest : List ℕ) → class_of c.code ≡ Secure → bodyOk (layout_of c.code) c ≡ true → Left (layout_of c.code).behind rest
+payload-back : (forms : Forms) (c : Command) (rest : List ℕ) → classOf c.code ≡ Secure → bodyOk (layoutOf c.code) c ≡ true → Left (layoutOf c.code).behind rest
     → PayloadGives c.code (secureOf forms c ++ rest) c
 unfolding readSecure secureOf
 payload-back forms c rest class ok left =
-    let l : Layout = layout_of c.code in
+    let l : Layout = layoutOf c.code in
     let narrow = secure-layout c.code class in (
-      rw allBelow-++ (and_both (body-small l narrow forms c ok) (left-small l.behind rest left)),
+      rw allBelow-++ (and-both (body-small l narrow forms c ok) (left-small l.behind rest left)),
       longIn forms (elementsOf c),
-      rw (class, body_back l narrow forms c rest ok left),
+      rw (class, body-back l narrow forms c rest ok left),
     )
 
 -- the all-short payload with nothing behind it
-short_back : (c : Command) → class_of c.code ≡ Secure → bodyOk (layout_of c.code) c ≡ true → PayloadGives c.code (secureOf [] c) c
-short_back c class ok = rw append-nil at (payload-back [] c [] class ok (left-none (layout_of c.code).behind))
+short-back : (c : Command) → classOf c.code ≡ Secure → bodyOk (layoutOf c.code) c ≡ true → PayloadGives c.code (secureOf [] c) c
+short-back c class ok = rw append-nil at (payload-back [] c [] class ok (left-none (layoutOf c.code).behind))
 
 tail-longer : (a b tail : List ℕ) → SameOrLonger a b → SameOrLonger (a ++ tail) b
 tail-longer a b [] (inl p) = inl (append-nil a ∙ p)
@@ -199,12 +199,12 @@ tail-longer a b tail (inr p) = inr (simp length-append (omega arith))
 payload-longer : (code : ℕ) (s : List ℕ) (c : Command) → Accepted Secure code s c → SameOrLonger s (secureOf [] c)
 unfolding secureOf
 payload-longer code s c a =
-    rw a.is (tail-longer (bodyBytes (layout_of c.code) a.forms c) (bodyBytes (layout_of c.code) [] c) a.rest (body-longer (layout_of c.code) a.forms c))
+    rw a.is (tail-longer (bodyBytes (layoutOf c.code) a.forms c) (bodyBytes (layoutOf c.code) [] c) a.rest (body-longer (layoutOf c.code) a.forms c))
 
 payload-around : (code : ℕ) (s : List ℕ) (c : Command) (a : Accepted Secure code s c)
-    → Around c (beforeElements (layout_of c.code) c) (afterElements (layout_of c.code) c ++ a.rest) s
+    → Around c (beforeElements (layoutOf c.code) c) (afterElements (layoutOf c.code) c ++ a.rest) s
 payload-around code s c a =
-    let l : Layout = layout_of c.code in
+    let l : Layout = layoutOf c.code in
     (a.forms, a.is ∙ rw (body-around l a.forms c a.ok) (simp append_assoc))
 
 -- ── the writer's test ───────────────────────────────────────────────────────
@@ -212,52 +212,52 @@ frame-writable : (c : Command) → HasFrame c → writable c ≡ true
 unfolding writable
 frame-writable c (s, g) =
     let f = framed s c g in
-    and_both f.ok (rw f.class (le-leb _ _ (short-fits s c f)))
+    and-both f.ok (rw f.class (le-leb _ _ (short-fits s c f)))
 
 payload-writable : (c : Command) → HasPayload c → writable c ≡ true
 unfolding writable
 payload-writable c (code, s, g) =
     let a = secured code s c g in
-    and_both a.ok (rw a.class)
+    and-both a.ok (rw a.class)
 
-frame-written : (c : Command) → class_of c.code ≡ Plain → writable c ≡ true → (length (frame_of [] c) ≤ 255) × FrameGives (frame_of [] c) c
+frame-written : (c : Command) → classOf c.code ≡ Plain → writable c ≡ true → (length (frameOf [] c) ≤ 255) × FrameGives (frameOf [] c) c
 unfolding writable
 frame-written c class w =
-    let fits : length (frame_of [] c) ≤ 255 = leb-true _ _ (subst (λ (k : Class). fitsClass k c ≡ true) class (and_right _ _ w)) in
-    (fits, frame_back [] c class (and_left _ _ w) fits)
+    let fits : length (frameOf [] c) ≤ 255 = leb-true _ _ (subst (λ (k : Class). fitsClass k c ≡ true) class (and-right _ _ w)) in
+    (fits, frame-back [] c class (and-left _ _ w) fits)
 
-payload-written : (c : Command) → class_of c.code ≡ Secure → writable c ≡ true → PayloadGives c.code (secureOf [] c) c
+payload-written : (c : Command) → classOf c.code ≡ Secure → writable c ≡ true → PayloadGives c.code (secureOf [] c) c
 unfolding writable
-payload-written c class w = short_back c class (and_left _ _ w)
+payload-written c class w = short-back c class (and-left _ _ w)
 
-unknown-unwritable : (c : Command) → class_of c.code ≡ Unknown → writable c ≡ true → ⊥
+unknown-unwritable : (c : Command) → classOf c.code ≡ Unknown → writable c ≡ true → ⊥
 unfolding writable
-unknown-unwritable c class w = true≢false (sym (subst (λ (k : Class). fitsClass k c ≡ true) class (and_right _ _ w)))
+unknown-unwritable c class w = true≢false (sym (subst (λ (k : Class). fitsClass k c ≡ true) class (and-right _ _ w)))
 
 writable-given : (c : Command) → writable c ≡ true → HasFrame c ⊎ HasPayload c
-writable-given c w = go (class_of c.code) refl
+writable-given c w = go (classOf c.code) refl
   where
-    go : (k : Class) → class_of c.code ≡ k → HasFrame c ⊎ HasPayload c
-    go Plain class = inl (frame_of [] c, (frame-written c class w).1)
+    go : (k : Class) → classOf c.code ≡ k → HasFrame c ⊎ HasPayload c
+    go Plain class = inl (frameOf [] c, (frame-written c class w).1)
     go Secure class = inr (c.code, secureOf [] c, payload-written c class w)
     go Unknown class = absurd (unknown-unwritable c class w)
 
 some-not-none : {s : List ℕ} → some s ≡ none → ⊥
 some-not-none e = let z : ◌≡◌ {A = ℕ} 0 1 = cc in omega arith
 
-written-some : (c : Command) (s : List ℕ) → written c ≡ some s → (writable c ≡ true) × (shortest (class_of c.code) c ≡ s)
+written-some : (c : Command) (s : List ℕ) → written c ≡ some s → (writable c ≡ true) × (shortest (classOf c.code) c ≡ s)
 unfolding written
 written-some c s e = go (writable c) refl e
   where
-    go : (b : Bool) → writable c ≡ b → cond b (some (shortest (class_of c.code) c)) none ≡ some s → (writable c ≡ true) × (shortest (class_of c.code) c ≡ s)
+    go : (b : Bool) → writable c ≡ b → cond b (some (shortest (classOf c.code) c)) none ≡ some s → (writable c ≡ true) × (shortest (classOf c.code) c ≡ s)
     go true w e = (w, cc)
     go false w e = absurd (some-not-none (sym e))
 
-none_written : (c : Command) → (writable c ≡ true → ⊥) → written c ≡ none
+none-written : (c : Command) → (writable c ≡ true → ⊥) → written c ≡ none
 unfolding written
-none_written c not = go (writable c) refl
+none-written c not = go (writable c) refl
   where
-    go : (b : Bool) → writable c ≡ b → cond b (some (shortest (class_of c.code) c)) none ≡ none
+    go : (b : Bool) → writable c ≡ b → cond b (some (shortest (classOf c.code) c)) none ≡ none
     go true w = absurd (not w)
     go false w = refl
 
@@ -267,7 +267,7 @@ frames-are-choices c (t, g) s = (
   λ given. let f = framed s c given in (f.forms, f.is, f.short),
   λ choice.
       let f = framed t c g in
-      rw choice.1 (frame_back choice.0 c f.class f.ok (rw choice.1 at choice.2)),
+      rw choice.1 (frame-back choice.0 c f.class f.ok (rw choice.1 at choice.2)),
 )
 
 pub payloads-are-choices : PayloadsAreChoices
@@ -292,7 +292,7 @@ short-payload-accepted c has = payload-written c (secured has.0 has.1 c has.2).c
 pub other-frames-longer : OtherFramesLonger
 other-frames-longer c s given other =
     let f = framed s c given in
-    longer s (frame_of [] c) (rw f.is (frame-longer f.forms c)) other
+    longer s (frameOf [] c) (rw f.is (frame-longer f.forms c)) other
 
 pub other-payloads-longer : OtherPayloadsLonger
 other-payloads-longer c code s given other = longer s (secureOf [] c) (payload-longer code s c (secured code s c given)) other
@@ -308,7 +308,7 @@ short-payload-written c has = rw (payload-writable c has, (secured has.0 has.1 c
 pub unwritable-exactly : UnwritableExactly
 unwritable-exactly c = (
   λ no. (λ has. some-not-none (sym (short-frame-written c has) ∙ no), λ has. some-not-none (sym (short-payload-written c has) ∙ no)),
-  λ neither. none_written c λ w. by neither (writable-given c w),
+  λ neither. none-written c λ w. by neither (writable-given c w),
 )
   where
     by : (¬ HasFrame c) × (¬ HasPayload c) → HasFrame c ⊎ HasPayload c → ⊥
@@ -327,8 +327,8 @@ payload-read-back c s class e =
 
 pub two-frames : TwoFrames
 two-frames c s t gs gt = (
-  c.code ∷ beforeElements (layout_of c.code) c,
-  afterElements (layout_of c.code) c,
+  c.code ∷ beforeElements (layoutOf c.code) c,
+  afterElements (layoutOf c.code) c,
   frame-around s c (framed s c gs),
   frame-around t c (framed t c gt),
 )
@@ -337,8 +337,8 @@ pub two-payloads : TwoPayloads
 two-payloads c s t gs gt =
     let a = secured c.code s c gs in
     let b = secured c.code t c gt in (
-      beforeElements (layout_of c.code) c,
-      afterElements (layout_of c.code) c,
+      beforeElements (layoutOf c.code) c,
+      afterElements (layoutOf c.code) c,
       a.rest,
       b.rest,
       secure-left c.code a.rest a.class a.left,
@@ -348,10 +348,10 @@ two-payloads c s t gs gt =
     )
 
 pub frame-long-counted : FrameLongCounted
-unfolding frame_back
+unfolding frame-back
 frame-long-counted c (t, g) forms short =
     let f = framed t c g in
-    (frame_back forms c f.class f.ok short).2
+    (frame-back forms c f.class f.ok short).2
 
 pub payload-long-counted : PayloadLongCounted
 unfolding payload-back
@@ -363,11 +363,11 @@ pub plain-long-counted : PlainLongCounted
 unfolding readPayload
 plain-long-counted c ([], small, long, e) forms = absurd (not-given e)
 plain-long-counted c (code ∷ body, small, long, e) forms =
-    let (class, rest, read) = plain-gives (class_of code) code body c long e in
-    let a = accepted Plain code body c long rest class (plain-layout code class) (and_right _ _ small) read in
-    let l : Layout = layout_of c.code in
-    let back = rw append-nil at (body_back l (plain-layout c.code a.class) forms c [] a.ok (left-none l.behind)) in
+    let (class, rest, read) = plain-gives (classOf code) code body c long e in
+    let a = accepted Plain code body c long rest class (plain-layout code class) (and-right _ _ small) read in
+    let l : Layout = layoutOf c.code in
+    let back = rw append-nil at (body-back l (plain-layout c.code a.class) forms c [] a.ok (left-none l.behind)) in
     rw (a.class, back)
 
 pub one-form-from-256 : OneFormFrom256
-one-form-from-256 long e h = by_form (λ (w : List ℕ). w ≡ longBytes e) long e (λ below. absurd (omega arith)) (λ why. refl)
+one-form-from-256 long e h = by-form (λ (w : List ℕ). w ≡ longBytes e) long e (λ below. absurd (omega arith)) (λ why. refl)

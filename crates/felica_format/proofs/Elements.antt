@@ -12,9 +12,9 @@ use borrow.Author.Tests.{ltb-true, ltb-false, eqb-true, eq-eqb}
 use Rattle.felica_format.specs.Basic.{◌and◌, Bytes, taken, bind}
 use Rattle.felica_format.specs.Command.{Element, Formed, longCount}
 use Rattle.felica_format.specs.Read.{formed, readShort, readLong, readElement, readEach, readElements}
-use Rattle.felica_format.specs.Write.{Forms, head_of, shortBytes, longBytes, isShort, elementBytes, eachBytes, longIn, elementsBytes}
+use Rattle.felica_format.specs.Write.{Forms, headOf, shortBytes, longBytes, isShort, elementBytes, eachBytes, longIn, elementsBytes}
 use Rattle.felica_format.specs.Writable.{elementOk, eachOk, elementsOk}
-use Rattle.felica_format.proofs.Tests.{tests, and_left, and_right, and_both, isEmpty-true}
+use Rattle.felica_format.proofs.Tests.{tests, and-left, and-right, and-both, isEmpty-true}
 use Rattle.felica_format.proofs.Bytes.{allBelow-++, bytes-right, head-below, tail-below}
 use Rattle.felica_format.proofs.Steps.{taken-value, taken-rest, none-taken, bind-taken}
 use Rattle.felica_format.proofs.Laws.{Laws, counted-laws}
@@ -24,52 +24,52 @@ same-element : {n n' p p' m m' : ℕ} → n ≡ n' → p ≡ p' → m ≡ m'
 same-element x y z = λ i. record { number = x i; place = y i; mode = z i }
 
 module _ (e : Element) (ok : elementOk e ≡ true) where
-  number_small : e.number < 65536
-  number_small = ltb-true _ _ (and_left _ _ ok)
+  number-small : e.number < 65536
+  number-small = ltb-true _ _ (and-left _ _ ok)
 
   place-small : e.place < 16
-  place-small = ltb-true _ _ (and_left _ _ (and_right _ _ ok))
+  place-small = ltb-true _ _ (and-left _ _ (and-right _ _ ok))
 
-  mode_small : e.mode < 8
-  mode_small = ltb-true _ _ (and_right _ _ (and_right _ _ ok))
+  mode-small : e.mode < 8
+  mode-small = ltb-true _ _ (and-right _ _ (and-right _ _ ok))
 
-  pub short_back : e.number < 256 → (rest : List ℕ) → readElement (shortBytes e ++ rest) ≡ taken (formed false e) rest
+  pub short-back : e.number < 256 → (rest : List ℕ) → readElement (shortBytes e ++ rest) ≡ taken (formed false e) rest
   unfolding readElement readShort shortBytes
-  short_back h rest =
+  short-back h rest =
       let p = place-small in
-      let m = mode_small in
-      let set : ltb (128 + head_of e) 128 ≡ false = omega tests in
+      let m = mode-small in
+      let set : ltb (128 + headOf e) 128 ≡ false = omega tests in
       rw set (ap (λ (x : Element). taken (formed false x) rest) (same-element refl (omega arith) (omega arith)))
 
   pub long-back : (rest : List ℕ) → readElement (longBytes e ++ rest) ≡ taken (formed true e) rest
   unfolding readElement readLong longBytes
   long-back rest =
-      let n = number_small in
+      let n = number-small in
       let p = place-small in
-      let m = mode_small in
-      let clear : ltb (head_of e) 128 ≡ true = omega tests in
+      let m = mode-small in
+      let clear : ltb (headOf e) 128 ≡ true = omega tests in
       rw clear (ap (λ (x : Element). taken (formed true x) rest) (same-element (omega arith) (omega arith) (omega arith)))
 
   short-small : e.number < 256 → Bytes (shortBytes e)
   unfolding shortBytes
   short-small h =
       let p = place-small in
-      let m = mode_small in
-      and_both (omega tests) (and_both (omega tests) refl)
+      let m = mode-small in
+      and-both (omega tests) (and-both (omega tests) refl)
 
   long-small : Bytes (longBytes e)
   unfolding longBytes
   long-small =
-      let n = number_small in
+      let n = number-small in
       let p = place-small in
-      let m = mode_small in
-      and_both (omega tests) (and_both (omega tests) (and_both (omega tests) refl))
+      let m = mode-small in
+      and-both (omega tests) (and-both (omega tests) (and-both (omega tests) refl))
 
 -- The two forms of an element: short only below 256, and long only where that is chosen or the number is from 256 up.
-pub by_form : (P : List ℕ → Type 0) (long : Bool) (e : Element)
+pub by-form : (P : List ℕ → Type 0) (long : Bool) (e : Element)
     → (e.number < 256 → P (shortBytes e)) → ((long ≡ false → 256 ≤ e.number) → P (longBytes e)) → P (elementBytes long e)
 unfolding elementBytes ◌and◌
-by_form P long e short other = go long _ (λ h. omega tests) (λ h. omega tests) other
+by-form P long e short other = go long _ (λ h. omega tests) (λ h. omega tests) other
   where
     go : (long b : Bool) → (b ≡ true → e.number < 256) → (b ≡ false → 256 ≤ e.number) → ((long ≡ false → 256 ≤ e.number) → P (longBytes e))
         → P (cond (not long and b) (shortBytes e) (longBytes e))
@@ -87,13 +87,13 @@ formOk f = elementOk f.element and (f.long || ltb f.element.number 256)
 
 form-back : (long : Bool) (e : Element) (rest : List ℕ) → formOk (formed long e) ≡ true → readElement (formBytes (formed long e) ++ rest) ≡ taken (formed long e) rest
 unfolding formOk formBytes
-form-back true e rest ok = long-back e (and_left _ _ ok) rest
-form-back false e rest ok = short_back e (and_left _ _ ok) (ltb-true _ _ (and_right _ _ ok)) rest
+form-back true e rest ok = long-back e (and-left _ _ ok) rest
+form-back false e rest ok = short-back e (and-left _ _ ok) (ltb-true _ _ (and-right _ _ ok)) rest
 
 form_small : (long : Bool) (e : Element) → formOk (formed long e) ≡ true → Bytes (formBytes (formed long e))
 unfolding formOk formBytes
-form_small true e ok = long-small e (and_left _ _ ok)
-form_small false e ok = short-small e (and_left _ _ ok) (ltb-true _ _ (and_right _ _ ok))
+form_small true e ok = long-small e (and-left _ _ ok)
+form_small false e ok = short-small e (and-left _ _ ok) (ltb-true _ _ (and-right _ _ ok))
 
 Form : List ℕ → Formed → List ℕ → Type 0
 Form s f rest = (formOk f ≡ true) × (s ≡ formBytes f ++ rest)
@@ -111,7 +111,7 @@ long-only head (a ∷ b ∷ s) f rest h small r =
     let first : 16 * (head / 16 % 8) + head % 16 ≡ head = omega arith in
     let low : (a + 256 * b) % 256 ≡ a = omega arith in
     let high : (a + 256 * b) / 256 ≡ b = omega arith in
-    (rw (← taken-value r) (and_both (and_both n (and_both p m)) refl), rw (← taken-value r, ← taken-rest r, first, low, high))
+    (rw (← taken-value r) (and-both (and-both n (and-both p m)) refl), rw (← taken-value r, ← taken-rest r, first, low, high))
 
 short-only : (head : ℕ) (s : List ℕ) (f : Formed) (rest : List ℕ) → 128 ≤ head → head < 256 → Bytes s → readShort head s ≡ taken f rest → Form (head ∷ s) f rest
 unfolding Form formOk formBytes readShort shortBytes
@@ -122,7 +122,7 @@ short-only head (a ∷ s) f rest l h small r =
     let p : ltb (head % 16) 16 ≡ true = omega tests in
     let m : ltb (head / 16 % 8) 8 ≡ true = omega tests in
     let first : 128 + (16 * (head / 16 % 8) + head % 16) ≡ head = omega arith in
-    (rw (← taken-value r) (and_both (and_both n (and_both p m)) (omega tests)), rw (← taken-value r, ← taken-rest r, first))
+    (rw (← taken-value r) (and-both (and-both n (and-both p m)) (omega tests)), rw (← taken-value r, ← taken-rest r, first))
 
 element-only : (s : List ℕ) (f : Formed) (rest : List ℕ) → Bytes s → readElement s ≡ taken f rest → Form s f rest
 unfolding readElement
@@ -130,8 +130,8 @@ element-only [] f rest small r = absurd (none-taken r)
 element-only (head ∷ s) f rest small r = go (ltb head 128) refl r
   where
     go : (b : Bool) → ltb head 128 ≡ b → cond b (readLong head s) (readShort head s) ≡ taken f rest → Form (head ∷ s) f rest
-    go true h r = long-only head s f rest (ltb-true _ _ h) (and_right _ _ small) r
-    go false h r = short-only head s f rest (ltb-false _ _ h) (ltb-true _ _ (and_left _ _ small)) (and_right _ _ small) r
+    go true h r = long-only head s f rest (ltb-true _ _ h) (and-right _ _ small) r
+    go false h r = short-only head s f rest (ltb-false _ _ h) (ltb-true _ _ (and-left _ _ small)) (and-right _ _ small) r
 
 form-rest : (s : List ℕ) (f : Formed) (t : List ℕ) → Bytes s → Form s f t → Bytes t
 unfolding Form
@@ -149,44 +149,44 @@ formsOk (f ∷ fs) = formOk f and formsOk fs
 abbrev eachIn : ℕ → List Formed → Bool
 eachIn n fs = eqb (length fs) n and formsOk fs
 
-each_back : (fs : List Formed) (rest : List ℕ) → formsOk fs ≡ true → readEach (length fs) (formsBytes fs ++ rest) ≡ taken fs rest
+each-back : (fs : List Formed) (rest : List ℕ) → formsOk fs ≡ true → readEach (length fs) (formsBytes fs ++ rest) ≡ taken fs rest
 unfolding readEach formsBytes formsOk bind
-each_back [] rest ok = refl
-each_back (f ∷ fs) rest ok =
-    rw (append_assoc, form-back f.long f.element (formsBytes fs ++ rest) (and_left _ _ ok), each_back fs rest (and_right _ _ ok))
+each-back [] rest ok = refl
+each-back (f ∷ fs) rest ok =
+    rw (append_assoc, form-back f.long f.element (formsBytes fs ++ rest) (and-left _ _ ok), each-back fs rest (and-right _ _ ok))
 
 Each : ℕ → List ℕ → List Formed → List ℕ → Type 0
 Each n s fs rest = (eachIn n fs ≡ true) × (s ≡ formsBytes fs ++ rest)
 
-each_step : (n : ℕ) (s : List ℕ) (f : Formed) (t : List ℕ) (ds : List Formed) (u : List ℕ) (fs : List Formed) (rest : List ℕ)
+each-step : (n : ℕ) (s : List ℕ) (f : Formed) (t : List ℕ) (ds : List Formed) (u : List ℕ) (fs : List Formed) (rest : List ℕ)
     → Form s f t → Each n t ds u → taken (f ∷ ds) u ≡ taken fs rest → Each (suc n) s fs rest
 unfolding Form Each formsOk formsBytes
-each_step n s f t ds u fs rest h k r =
-    let len : length ds ≡ n = eqb-true _ _ (and_left _ _ k.0) in (
-      rw (← taken-value r) (and_both (eq-eqb _ _ (ap suc len)) (and_both h.0 (and_right _ _ k.0))),
+each-step n s f t ds u fs rest h k r =
+    let len : length ds ≡ n = eqb-true _ _ (and-left _ _ k.0) in (
+      rw (← taken-value r) (and-both (eq-eqb _ _ (ap suc len)) (and-both h.0 (and-right _ _ k.0))),
       rw (← taken-value r, ← taken-rest r, append_assoc) (h.1 ∙ ap (λ (x : List ℕ). formBytes f ++ x) k.1),
     )
 
 each-only : (n : ℕ) (s : List ℕ) (fs : List Formed) (rest : List ℕ) → Bytes s → readEach n s ≡ taken fs rest → Each n s fs rest
 unfolding readEach formsBytes formsOk Each
-each-only zero s fs rest small r = (rw (← taken-value r) (and_both refl refl), rw (← taken-value r) (taken-rest r))
+each-only zero s fs rest small r = (rw (← taken-value r) (and-both refl refl), rw (← taken-value r) (taken-rest r))
 each-only (suc n) s fs rest small r =
     let b = bind-taken _ _ r in
     let f = element-only s b.0 b.1 small b.2 in
     let d = bind-taken _ _ b.3 in
-    each_step n s b.0 b.1 d.0 d.1 fs rest f (each-only n b.1 d.0 d.1 (form-rest s b.0 b.1 small f) d.2) d.3
+    each-step n s b.0 b.1 d.0 d.1 fs rest f (each-only n b.1 d.0 d.1 (form-rest s b.0 b.1 small f) d.2) d.3
 
 each-small : (fs : List Formed) → formsOk fs ≡ true → Bytes (formsBytes fs)
 unfolding formsBytes formsOk
 each-small [] ok = refl
-each-small (f ∷ fs) ok = rw allBelow-++ (and_both (form_small f.long f.element (and_left _ _ ok)) (each-small fs (and_right _ _ ok)))
+each-small (f ∷ fs) ok = rw allBelow-++ (and-both (form_small f.long f.element (and-left _ _ ok)) (each-small fs (and-right _ _ ok)))
 
 each-laws : (n : ℕ) → Laws (readEach n) formsBytes (eachIn n)
 unfolding Each
 each-laws n = record {
-  back = λ fs rest ok. let len : length fs ≡ n = eqb-true _ _ (and_left _ _ ok) in rw (← len) (each_back fs rest (and_right _ _ ok));
+  back = λ fs rest ok. let len : length fs ≡ n = eqb-true _ _ (and-left _ _ ok) in rw (← len) (each-back fs rest (and-right _ _ ok));
   only = λ s fs rest small e. each-only n s fs rest small e;
-  small = λ fs ok. each-small fs (and_right _ _ ok);
+  small = λ fs ok. each-small fs (and-right _ _ ok);
 }
 
 -- ── elements in a choice of forms ───────────────────────────────────────────
@@ -216,7 +216,7 @@ module _ (long : Bool) (e : Element) where
 
   inForm-ok : elementOk e ≡ true → formOk (inForm long e) ≡ true
   unfolding formOk inForm ◌and◌
-  inForm-ok ok = and_both ok (go long (ltb e.number 256))
+  inForm-ok ok = and-both ok (go long (ltb e.number 256))
     where
       go : (long b : Bool) → (not (not long and b) || b) ≡ true
       go true b = refl
@@ -234,7 +234,7 @@ module _ (long : Bool) (e : Element) where
   -- an element in the form that it has
   inForm-same : formOk (formed long e) ≡ true → inForm long e ≡ formed long e
   unfolding formOk inForm ◌and◌
-  inForm-same ok = go long (ltb e.number 256) (and_right (elementOk e) _ ok)
+  inForm-same ok = go long (ltb e.number 256) (and-right (elementOk e) _ ok)
     where
       go : (long b : Bool) → (long || b) ≡ true → formed (not (not long and b)) e ≡ formed long e
       go true b h = refl
@@ -250,8 +250,8 @@ inForms-bytes (long ∷ forms) (e ∷ es) = rw (inForm-bytes long e, inForms-byt
 inForms-ok : (forms : Forms) (es : List Element) → eachOk es ≡ true → formsOk (inForms forms es) ≡ true
 unfolding formsOk inForms eachOk
 inForms-ok forms [] ok = refl
-inForms-ok [] (e ∷ es) ok = and_both (inForm-ok false e (and_left _ _ ok)) (inForms-ok [] es (and_right _ _ ok))
-inForms-ok (long ∷ forms) (e ∷ es) ok = and_both (inForm-ok long e (and_left _ _ ok)) (inForms-ok forms es (and_right _ _ ok))
+inForms-ok [] (e ∷ es) ok = and-both (inForm-ok false e (and-left _ _ ok)) (inForms-ok [] es (and-right _ _ ok))
+inForms-ok (long ∷ forms) (e ∷ es) ok = and-both (inForm-ok long e (and-left _ _ ok)) (inForms-ok forms es (and-right _ _ ok))
 
 pub inForms-elements : (forms : Forms) (es : List Element) → elementsIn (inForms forms es) ≡ es
 unfolding inForms inForm
@@ -268,12 +268,12 @@ inForms-long (long ∷ forms) (e ∷ es) = rw (inForm-long long e, inForms-long 
 inForms-same : (fs : List Formed) → formsOk fs ≡ true → inForms (formsIn fs) (elementsIn fs) ≡ fs
 unfolding formsOk inForms
 inForms-same [] ok = refl
-inForms-same (f ∷ fs) ok = rw (inForm-same f.long f.element (and_left _ _ ok), inForms-same fs (and_right _ _ ok))
+inForms-same (f ∷ fs) ok = rw (inForm-same f.long f.element (and-left _ _ ok), inForms-same fs (and-right _ _ ok))
 
 elementsIn-ok : (fs : List Formed) → formsOk fs ≡ true → eachOk (elementsIn fs) ≡ true
 unfolding formsOk formOk eachOk
 elementsIn-ok [] ok = refl
-elementsIn-ok (f ∷ fs) ok = and_both (and_left _ _ (and_left _ _ ok)) (elementsIn-ok fs (and_right _ _ ok))
+elementsIn-ok (f ∷ fs) ok = and-both (and-left _ _ (and-left _ _ ok)) (elementsIn-ok fs (and-right _ _ ok))
 
 pub inForms-length : (forms : Forms) (es : List Element) → length (inForms forms es) ≡ length es
 unfolding inForms
@@ -301,7 +301,7 @@ blocks-laws missing outside = counted-laws missing outside 1 255 (omega arith) r
 inForms-blocks : (forms : Forms) (es : List Element) → elementsOk true es ≡ true → blocksOk (inForms forms es) ≡ true
 unfolding elementsOk
 inForms-blocks forms es ok = rw (inForms-length forms es)
-    (and_both (and_left _ _ ok) (and_both (and_left _ _ (and_right _ _ ok)) (inForms-ok forms es (and_right _ _ (and_right _ _ ok)))))
+    (and-both (and-left _ _ ok) (and-both (and-left _ _ (and-right _ _ ok)) (inForms-ok forms es (and-right _ _ (and-right _ _ ok)))))
 
 pub elements-back : (missing outside : ℕ) (there : Bool) (forms : Forms) (es : List Element) (rest : List ℕ) → elementsOk there es ≡ true
     → readElements missing outside there (elementsBytes there forms es ++ rest) ≡ taken (inForms forms es) rest
@@ -331,14 +331,14 @@ elements-only missing outside false s fs rest small r =
     record { forms = []; ok = rw (← none); same = rw (← none); is = taken-rest r }
 elements-only missing outside true s fs rest small r =
     let o = (blocks-laws missing outside).only s fs rest small r in
-    let low = and_left _ _ o.0 in
-    let high = and_left _ _ (and_right _ _ o.0) in
-    let all = and_right _ _ (and_right _ _ o.0) in
+    let low = and-left _ _ o.0 in
+    let high = and-left _ _ (and-right _ _ o.0) in
+    let all = and-right _ _ (and-right _ _ o.0) in
     let same = inForms-same fs all in
     let is : formsBytes fs ≡ eachBytes (formsIn fs) (elementsIn fs) = ap formsBytes (sym same) ∙ inForms-bytes (formsIn fs) (elementsIn fs) in
     record {
       forms = formsIn fs;
-      ok = rw (length-map fs (λ f. f.element)) (and_both low (and_both high (elementsIn-ok fs all)));
+      ok = rw (length-map fs (λ f. f.element)) (and-both low (and-both high (elementsIn-ok fs all)));
       same = same;
       is = rw (length-map fs (λ f. f.element), ← is) o.1;
     }
@@ -366,7 +366,7 @@ append-longer a a' b b' (inr p) (inr q) = inr (simp length-append (omega arith))
 element-longer : (long : Bool) (e : Element) → SameOrLonger (elementBytes long e) (elementBytes false e)
 unfolding elementBytes ◌and◌ shortBytes longBytes
 element-longer false e = inl refl
-element-longer true e = by_form (SameOrLonger (longBytes e)) false e (λ h. inr (omega arith)) (λ why. inl refl)
+element-longer true e = by-form (SameOrLonger (longBytes e)) false e (λ h. inr (omega arith)) (λ why. inl refl)
 
 each-longer : (forms : Forms) (es : List Element) → SameOrLonger (eachBytes forms es) (eachBytes [] es)
 unfolding eachBytes

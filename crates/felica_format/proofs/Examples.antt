@@ -2,14 +2,14 @@
 -- Assumes nothing.
 use mathlib.Core.Path.{refl}
 use Rattle.felica_format.specs.Basic.{◌and◌, bind, refuseIf}
-use Rattle.felica_format.specs.Layout.{plainRows, secureRows, has, class_of, layoutIn, layout_of}
-use Rattle.felica_format.specs.Read.{readIdm, readSelector, readCount, words_of, readWords, readCodes, readShort, readLong, readElement, readEach}
-use Rattle.felica_format.specs.Read.{readElements, readData, isTimeSlots, readValues, readEnding, readPackage, read_body, readPayload, readFrame, readSecure}
+use Rattle.felica_format.specs.Layout.{plainRows, secureRows, has, classOf, layoutIn, layoutOf}
+use Rattle.felica_format.specs.Read.{readIdm, readSelector, readCount, wordsOf, readWords, readCodes, readShort, readLong, readElement, readEach}
+use Rattle.felica_format.specs.Read.{readElements, readData, isTimeSlots, readValues, readEnding, readPackage, readBody, readPayload, readFrame, readSecure}
 use Rattle.felica_format.specs.Examples.{AllAnswered, starred, slips, everyCode}
 
 -- opens all that reading is made of
 reading : Unit {0}
-unfolding ◌and◌ bind refuseIf readFrame readPayload readSecure read_body readIdm readSelector readCodes readCount readWords words_of readElements readEach readElement readShort readLong readData readEnding readValues isTimeSlots readPackage class_of layout_of has layoutIn plainRows secureRows
+unfolding ◌and◌ bind refuseIf readFrame readPayload readSecure readBody readIdm readSelector readCodes readCount readWords wordsOf readElements readEach readElement readShort readLong readData readEnding readValues isTimeSlots readPackage classOf layoutOf has layoutIn plainRows secureRows
 reading = tt
 
 pub starred-rows : AllAnswered starred

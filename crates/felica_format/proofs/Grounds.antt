@@ -13,9 +13,9 @@ use Rattle.felica_format.specs.declared.classes.Class.{Class}
 use Rattle.felica_format.specs.declared.classes.Class.TheVariants.{Plain, Secure, Unknown}
 use Rattle.felica_format.specs.Basic.{Step, taken, refuse, bind, refuseIf}
 use Rattle.felica_format.specs.Layout.{Selector, noSelector, typeByte, anyByte, Codes, noCodes, ◌to◌, Ending, bytes, word, words, reserved, polling, parameter}
-use Rattle.felica_format.specs.Layout.{Behind, nothing, ignoredBytes, aPackage, Layout, class_of, layout_of}
+use Rattle.felica_format.specs.Layout.{Behind, nothing, ignoredBytes, aPackage, Layout, classOf, layoutOf}
 use Rattle.felica_format.specs.Read.{readBytes, readIdm, readSelector, readCount, readWords, readCodes, readShort, readLong, readElement, readEach}
-use Rattle.felica_format.specs.Read.{readElements, readData, readValues, readEnding, readPackage, ifCodes, Counted, read_body, refused, answer_of}
+use Rattle.felica_format.specs.Read.{readElements, readData, readValues, readEnding, readPackage, ifCodes, Counted, readBody, refused, answerOf}
 use Rattle.felica_format.specs.Read.{readPlainAs, readSecureAs, readPayload, readFrame, readSecure}
 use Rattle.felica_format.specs.Grounds.{Number, FrameRefusals, PayloadRefusals, SecureRefusals}
 
@@ -114,8 +114,8 @@ if-codes : (codes : Codes) (second first : ℕ) → Ground second → Ground fir
 if-codes noCodes second first s f = f
 if-codes (least to greatest) second first s f = s
 
-body-grounded : (code : ℕ) (l : Layout) (s : List ℕ) → Grounded (read_body code l s)
-unfolding read_body
+body-grounded : (code : ℕ) (l : Layout) (s : List ℕ) → Grounded (readBody code l s)
+unfolding readBody
 body-grounded code l s =
     bind-grounded _ _ (idm-grounded l.idm s) λ idm s₁.
     bind-grounded _ _ (selector-grounded l.selector s₁) λ selector s₂.
@@ -138,7 +138,7 @@ number least greatest i n given code low high e =
     (omega arith, omega arith, cc)
 
 -- the answer to a body
-body-number : (k : ℕ) (m : Step Counted) (n : ℕ) (code : Option ℕ) → Grounded m → answer_of k m ≡ refused n code → Number 6 20 n (some k) code
+body-number : (k : ℕ) (m : Step Counted) (n : ℕ) (code : Option ℕ) → Grounded m → answerOf k m ≡ refused n code → Number 6 20 n (some k) code
 body-number k (taken c rest) n code g e = absurd (let z : ◌≡◌ {A = ℕ} 0 1 = cc in omega arith)
 body-number k (refuse i) n code (refuses g) e =
     let h = split (leb 6 i) (leb i 20) g in
@@ -148,20 +148,20 @@ from : (least lower greatest n : ℕ) (given code : Option ℕ) → lower ≤ le
 from least lower greatest n given code low h = (omega (arith, low, h.0), h.1, h.2)
 
 plain-number : (class : Class) (k : ℕ) (s : List ℕ) (n : ℕ) (code : Option ℕ) → readPlainAs class k s ≡ refused n code → Number 4 20 n (some k) code
-plain-number Plain k s n code e = from 6 4 20 n (some k) code (omega arith) (body-number k _ n code (body-grounded k (layout_of k) s) e)
+plain-number Plain k s n code e = from 6 4 20 n (some k) code (omega arith) (body-number k _ n code (body-grounded k (layoutOf k) s) e)
 plain-number Secure k s n code e = number 4 20 4 n (some k) code (omega arith) (omega arith) e
 plain-number Unknown k s n code e = number 4 20 5 n (some k) code (omega arith) (omega arith) e
 
 secure-number : (class : Class) (k : ℕ) (s : List ℕ) (n : ℕ) (code : Option ℕ) → readSecureAs class k s ≡ refused n code → Number 5 20 n (some k) code
 secure-number Plain k s n code e = number 5 20 5 n (some k) code (omega arith) (omega arith) e
-secure-number Secure k s n code e = from 6 5 20 n (some k) code (omega arith) (body-number k _ n code (body-grounded k (layout_of k) s) e)
+secure-number Secure k s n code e = from 6 5 20 n (some k) code (omega arith) (body-number k _ n code (body-grounded k (layoutOf k) s) e)
 secure-number Unknown k s n code e = number 5 20 5 n (some k) code (omega arith) (omega arith) e
 
 -- ── the statements ──────────────────────────────────────────────────────────
 pub payload-refusals : PayloadRefusals
 unfolding readPayload
 payload-refusals [] n code e = inl (number 3 3 3 n none code (omega arith) (omega arith) e)
-payload-refusals (k ∷ s) n code e = inr (plain-number (class_of k) k s n code e)
+payload-refusals (k ∷ s) n code e = inr (plain-number (classOf k) k s n code e)
 
 pub frame-refusals : FrameRefusals
 unfolding readFrame
@@ -178,4 +178,4 @@ frame-refusals (size ∷ payload) n code e = go (eqb size (suc (length payload))
 
 pub secure-refusals : SecureRefusals
 unfolding readSecure
-secure-refusals k s n code e = secure-number (class_of k) k s n code e
+secure-refusals k s n code e = secure-number (classOf k) k s n code e

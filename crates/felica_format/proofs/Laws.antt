@@ -11,9 +11,9 @@ use lib.Dec.{ltb, leb, eqb}
 use borrow.Author.Tests.{ltb-false, leb-true, eqb-true, le-ltb, eq-eqb}
 use Rattle.felica_format.specs.Basic.{◌and◌, Bytes, Step, taken, refuse, bind, refuseIf}
 use Rattle.felica_format.specs.Read.{readBytes, readCount}
-use Rattle.felica_format.specs.Writable.{are_bytes}
-use Rattle.felica_format.proofs.Tests.{tests, and_left, and_right, and_both, or-none}
-use Rattle.felica_format.proofs.Bytes.{bytes_take, head-below}
+use Rattle.felica_format.specs.Writable.{areBytes}
+use Rattle.felica_format.proofs.Tests.{tests, and-left, and-right, and-both, or-none}
+use Rattle.felica_format.proofs.Bytes.{bytes-take, head-below}
 use Rattle.felica_format.proofs.Steps.{taken-value, taken-rest, none-taken, refuseIf-passed, refuseIf-taken, refuseIf-pass, bind-taken, bind-step}
 
 --   back    what was written in its range reads back, and leaves what stood behind it
@@ -34,10 +34,10 @@ absent-laws blank ok blank_ok only-blank = record {
 }
 
 -- n bytes
-pub bytes_laws : (n ground : ℕ) → Laws (readBytes n ground) (λ a. a) (are_bytes n)
-bytes_laws n ground = record {
+pub bytes-laws : (n ground : ℕ) → Laws (readBytes n ground) (λ a. a) (areBytes n)
+bytes-laws n ground = record {
   back = λ a rest ok.
-      let h : length a ≡ n = eqb-true _ _ (and_left _ _ ok) in
+      let h : length a ≡ n = eqb-true _ _ (and-left _ _ ok) in
       let l : length (a ++ rest) ≡ length a + length rest = length-append a rest in
       let enough : ltb (length (a ++ rest)) n ≡ false = omega tests in
       rw (refuseIf-pass, take_at a rest n, drop_at a rest n);
@@ -46,18 +46,18 @@ bytes_laws n ground = record {
       let t = refuseIf-taken _ _ _ e in
       let v : take n s ≡ a = taken-value t in
       let r : drop n s ≡ rest = taken-rest t in (
-        rw (← v) (and_both (eq-eqb _ _ (length-take-le n s enough)) (bytes_take n s small)),
+        rw (← v) (and-both (eq-eqb _ _ (length-take-le n s enough)) (bytes-take n s small)),
         rw (← v, ← r) (sym (take-append-drop n s)),
       );
-  small = λ a ok. and_right _ _ ok;
+  small = λ a ok. and-right _ _ ok;
 }
 
 -- one byte that passes a test
-pub byte_laws : (read : List ℕ → Step ℕ) (missing ground : ℕ) (bad ok : ℕ → Bool)
+pub byte-laws : (read : List ℕ → Step ℕ) (missing ground : ℕ) (bad ok : ℕ → Bool)
     → read [] ≡ refuse missing → ((b : ℕ) (s : List ℕ) → read (b ∷ s) ≡ refuseIf (bad b) ground (taken b s))
     → ((b : ℕ) → ok b ≡ true → (bad b ≡ false) × (b < 256)) → ((b : ℕ) → b < 256 → bad b ≡ false → ok b ≡ true)
     → Laws read (λ b. b ∷ []) ok
-byte_laws read missing ground bad ok none one good passes = record {
+byte-laws read missing ground bad ok none one good passes = record {
   back = λ b rest h. one b rest ∙ refuseIf-pass (bad b) ground (taken b rest) (good b h).0;
   only = elim [
     | [] ↦ λ b rest small e. absurd (none-taken (sym none ∙ e))
@@ -66,7 +66,7 @@ byte_laws read missing ground bad ok none one good passes = record {
         let t = refuseIf-taken _ _ _ r in
         (rw (← taken-value t) (passes a (head-below 256 a s small) (refuseIf-passed _ _ _ r)), rw (taken-value t, taken-rest t))
   ];
-  small = λ b h. let below = (good b h).1 in and_both (omega tests) refl;
+  small = λ b h. let below = (good b h).1 in and-both (omega tests) refl;
 }
 
 abbrev pub countOk : ℕ → ℕ → ℕ → Bool
@@ -76,16 +76,16 @@ pub count-laws : (missing outside least greatest : ℕ) → greatest < 256
     → Laws (readCount missing outside least greatest) (λ n. n ∷ []) (countOk least greatest)
 unfolding readCount
 count-laws missing outside least greatest narrow =
-    byte_laws (readCount missing outside least greatest) missing outside (λ n. ltb n least || ltb greatest n) (countOk least greatest) refl (λ n s. refl)
+    byte-laws (readCount missing outside least greatest) missing outside (λ n. ltb n least || ltb greatest n) (countOk least greatest) refl (λ n s. refl)
     (λ n ok.
-    let low : least ≤ n = leb-true _ _ (and_left _ _ ok) in
-    let high : n ≤ greatest = leb-true _ _ (and_right _ _ ok) in
+    let low : least ≤ n = leb-true _ _ (and-left _ _ ok) in
+    let high : n ≤ greatest = leb-true _ _ (and-right _ _ ok) in
     (rw (le-ltb n least low, le-ltb greatest n high), omega arith))
     (λ n small passed.
     let h = or-none (ltb n least) (ltb greatest n) passed in
     let low = h.0 in
     let high = h.1 in
-    and_both (omega tests) (omega tests))
+    and-both (omega tests) (omega tests))
 
 -- a count and what it counts, from the laws of each number of things
 pub counted-laws : {A : Type 0} (missing outside least greatest : ℕ) → greatest < 256
@@ -97,18 +97,18 @@ counted-laws missing outside least greatest narrow each write ok laws =
     let count = count-laws missing outside least greatest narrow in
     record {
       back = λ xs rest h.
-          let c : countOk least greatest (length xs) ≡ true = and_both (and_left _ _ h) (and_left _ _ (and_right _ _ h)) in
+          let c : countOk least greatest (length xs) ≡ true = and-both (and-left _ _ h) (and-left _ _ (and-right _ _ h)) in
           bind-step _ each (count.back (length xs) (write xs ++ rest) c)
-          ∙ (laws (length xs)).back xs rest (and_both (omega tests) (and_right _ _ (and_right _ _ h)));
+          ∙ (laws (length xs)).back xs rest (and-both (omega tests) (and-right _ _ (and-right _ _ h)));
       only = λ s xs rest small e.
           let b = bind-taken _ _ e in
           let c = count.only s b.0 b.1 small b.2 in
-          let w = (laws b.0).only b.1 xs rest (and_right _ _ (rw c.1 at small)) b.3 in
-          let len : length xs ≡ b.0 = eqb-true _ _ (and_left _ _ w.0) in (
-            rw len (and_both (and_left _ _ c.0) (and_both (and_right _ _ c.0) (and_right _ _ w.0))),
+          let w = (laws b.0).only b.1 xs rest (and-right _ _ (rw c.1 at small)) b.3 in
+          let len : length xs ≡ b.0 = eqb-true _ _ (and-left _ _ w.0) in (
+            rw len (and-both (and-left _ _ c.0) (and-both (and-right _ _ c.0) (and-right _ _ w.0))),
             c.1 ∙ ap (λ (r : List ℕ). b.0 ∷ r) w.1 ∙ ap (λ (n : ℕ). n ∷ (write xs ++ rest)) (sym len),
           );
       small = λ xs h.
-          let high : length xs ≤ greatest = leb-true _ _ (and_left _ _ (and_right _ _ h)) in
-          and_both (omega tests) ((laws (length xs)).small xs (and_both (omega tests) (and_right _ _ (and_right _ _ h))));
+          let high : length xs ≤ greatest = leb-true _ _ (and-left _ _ (and-right _ _ h)) in
+          and-both (omega tests) ((laws (length xs)).small xs (and-both (omega tests) (and-right _ _ (and-right _ _ h))));
     }

@@ -12,7 +12,6 @@ pub mod Rows
 pub mod Demand3
 pub mod Long
 pub mod Grounds
-pub mod Members
 pub mod Tables
 pub mod ClassTable
 pub mod Slots

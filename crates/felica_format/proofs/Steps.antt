@@ -49,8 +49,8 @@ bind-step m next e = rw e
 pub not-given : {n : ℕ} {code : Option ℕ} {c : Command} {long : ℕ} → refused n code ≡ gives c long → ⊥
 not-given e = let z : ◌≡◌ {A = ℕ} 0 1 = cc in omega arith
 
-pub given_is : {c d : Command} {m n : ℕ} → gives c m ≡ gives d n → c ≡ d
-given_is e = cc
+pub given-is : {c d : Command} {m n : ℕ} → gives c m ≡ gives d n → c ≡ d
+given-is e = cc
 
 pub given-long : {c d : Command} {m n : ℕ} → gives c m ≡ gives d n → m ≡ n
 given-long e = cc

@@ -8,7 +8,7 @@ use mathlib.Core.List.{List, [], ◌∷◌, map}
 use lib.ListN.{length}
 use Rattle.felica_format.specs.Command.{Command, Element, zipElements, elementsOf}
 use Rattle.felica_format.specs.Writable.{sameLength, oneLength}
-use Rattle.felica_format.proofs.Tests.{tests, and_left, and_right}
+use Rattle.felica_format.proofs.Tests.{tests, and-left, and-right}
 
 pub zip-lists : (es : List Element) → zipElements (map (λ e. e.number) es) (map (λ e. e.place) es) (map (λ e. e.mode) es) ≡ es
 unfolding zipElements
@@ -43,8 +43,8 @@ pub record Zipped (c : Command) : Type 0 where
 pub zipped : (c : Command) → oneLength c ≡ true → Zipped c
 unfolding sameLength
 zipped c ok =
-    let p = and_left _ _ ok in
-    let m = and_right _ _ ok in
+    let p = and-left _ _ ok in
+    let m = and-right _ _ ok in
     record {
       numbers = numbers-zip c.numbers c.places c.modes;
       places = places-zip c.numbers c.places c.modes (omega tests);

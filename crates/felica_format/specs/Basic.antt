@@ -9,13 +9,13 @@ true and b = b
 false and b = false
 
 -- each number is below the bound
-abbrev pub all_below : ℕ → List ℕ → Bool
-all_below k [] = true
-all_below k (x ∷ xs) = ltb x k and all_below k xs
+abbrev pub allBelow : ℕ → List ℕ → Bool
+allBelow k [] = true
+allBelow k (x ∷ xs) = ltb x k and allBelow k xs
 
 -- a list of bytes is a list of numbers below 256
 abbrev pub Bytes : List ℕ → Type 0
-Bytes s = all_below 256 s ≡ true
+Bytes s = allBelow 256 s ≡ true
 
 -- the number is among those listed
 abbrev pub isOneOf : List ℕ → ℕ → Bool
@@ -29,11 +29,11 @@ zeros n = replicate n 0
 abbrev pub wordOf : ℕ → ℕ → ℕ
 wordOf low high = low + 256 * high
 
-abbrev pub word_at : List ℕ → ℕ → ℕ
-word_at s at = wordOf (get_or s at 0) (get_or s (suc at) 0)
+abbrev pub wordAt : List ℕ → ℕ → ℕ
+wordAt s at = wordOf (get_or s at 0) (get_or s (suc at) 0)
 
-abbrev pub word_bytes : ℕ → List ℕ
-word_bytes n = n % 256 ∷ n / 256 ∷ []
+abbrev pub wordBytes : ℕ → List ℕ
+wordBytes n = n % 256 ∷ n / 256 ∷ []
 
 -- the answer of a step: what it took, with the bytes behind it; or the number of the ground on which it refuses
 pub data Step (A : Type 0) : Type 0 where

@@ -6,9 +6,9 @@ use Rattle.std.proofs.Math.Option.{none, some}
 use Rattle.felica_format.specs.declared.classes.Class.TheVariants.{Plain, Secure}
 use Rattle.felica_format.specs.Basic.{Bytes, isOneOf}
 use Rattle.felica_format.specs.Command.{Command, Element, elementsOf}
-use Rattle.felica_format.specs.Layout.{class_of}
+use Rattle.felica_format.specs.Layout.{classOf}
 use Rattle.felica_format.specs.Read.{gives, readFrame, readSecure}
-use Rattle.felica_format.specs.Write.{Forms, longBytes, elementBytes, eachBytes, frame_of, secureOf}
+use Rattle.felica_format.specs.Write.{Forms, longBytes, elementBytes, eachBytes, frameOf, secureOf}
 use Rattle.felica_format.specs.Writable.{written}
 
 -- "A frame, or a payload with its secure code, is accepted when the layouts and checks above find no ground against it, and gives the command
@@ -27,7 +27,7 @@ HasPayload c = (code : ℕ) × (s : List ℕ) × PayloadGives code s c
 
 -- "its choices of short or long form for block numbers below 256, within 255 bytes"
 abbrev pub FrameChoice : Command → List ℕ → Type 0
-FrameChoice c s = (forms : Forms) × (s ≡ frame_of forms c) × (length s ≤ 255)
+FrameChoice c s = (forms : Forms) × (s ≡ frameOf forms c) × (length s ≤ 255)
 
 -- "behind 14, 16, 44, 46 any tail may follow"
 abbrev pub secureReadsAndWrites : List ℕ
@@ -48,21 +48,21 @@ PayloadsAreChoices = (c : Command) → HasPayload c → (code : ℕ) (s : List �
 
 -- "the all-short one is among them"
 abbrev pub ShortFrameAccepted : Type 0
-ShortFrameAccepted = (c : Command) → HasFrame c → FrameGives (frame_of [] c) c
+ShortFrameAccepted = (c : Command) → HasFrame c → FrameGives (frameOf [] c) c
 
 abbrev pub ShortPayloadAccepted : Type 0
 ShortPayloadAccepted = (c : Command) → HasPayload c → PayloadGives c.code (secureOf [] c) c
 
 -- "every other has more bytes"
 abbrev pub OtherFramesLonger : Type 0
-OtherFramesLonger = (c : Command) (s : List ℕ) → FrameGives s c → s ≢ frame_of [] c → length (frame_of [] c) < length s
+OtherFramesLonger = (c : Command) (s : List ℕ) → FrameGives s c → s ≢ frameOf [] c → length (frameOf [] c) < length s
 
 abbrev pub OtherPayloadsLonger : Type 0
 OtherPayloadsLonger = (c : Command) (code : ℕ) (s : List ℕ) → PayloadGives code s c → s ≢ secureOf [] c → length (secureOf [] c) < length s
 
 -- "and the writer writes it byte for byte"
 abbrev pub ShortFrameWritten : Type 0
-ShortFrameWritten = (c : Command) → HasFrame c → written c ≡ some (frame_of [] c)
+ShortFrameWritten = (c : Command) → HasFrame c → written c ≡ some (frameOf [] c)
 
 abbrev pub ShortPayloadWritten : Type 0
 ShortPayloadWritten = (c : Command) → HasPayload c → written c ≡ some (secureOf [] c)
@@ -74,10 +74,10 @@ UnwritableExactly = (c : Command) → (written c ≡ none) ↔ ((¬ HasFrame c) 
 
 -- "What the writer writes, the parser reads as the command given."
 abbrev pub FrameReadBack : Type 0
-FrameReadBack = (c : Command) (s : List ℕ) → class_of c.code ≡ Plain → written c ≡ some s → (length s ≤ 255) × FrameGives s c
+FrameReadBack = (c : Command) (s : List ℕ) → classOf c.code ≡ Plain → written c ≡ some s → (length s ≤ 255) × FrameGives s c
 
 abbrev pub PayloadReadBack : Type 0
-PayloadReadBack = (c : Command) (s : List ℕ) → class_of c.code ≡ Secure → written c ≡ some s → PayloadGives c.code s c
+PayloadReadBack = (c : Command) (s : List ℕ) → classOf c.code ≡ Secure → written c ≡ some s → PayloadGives c.code s c
 
 -- the list is `before`, the command's elements in some forms, and `after`
 abbrev pub Around : Command → List ℕ → List ℕ → List ℕ → Type 0

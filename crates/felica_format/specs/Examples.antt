@@ -46,8 +46,8 @@ starred =
 abbrev pub element : ℕ → ℕ → ℕ → Element
 element number place mode = record { number = number; place = place; mode = mode }
 
-abbrev pub a_number : ℕ → EndFields
-a_number n = endFields n 0 0 0 (zeros 16)
+abbrev pub aNumber : ℕ → EndFields
+aNumber n = endFields n 0 0 0 (zeros 16)
 
 abbrev pub aChallenge : List ℕ → EndFields
 aChallenge bs = endFields 0 0 0 0 bs
@@ -95,7 +95,7 @@ everyCode =
     ∷ (frame 0x04 I8 answers gives (commandOf 0x04 I8 0 [] [] [] [] noFields []) 0)
     ∷ (frame 0x06 (I8 ++ (0x01 ∷ 0x0B ∷ 0x10 ∷ 0x01 ∷ 0x80 ∷ 0x05 ∷ [])) answers gives (commandOf 0x06 I8 0 (0x100B ∷ []) [] oneElement [] noFields []) 0)
     ∷ (frame 0x08 (I8 ++ (0x01 ∷ 0x0B ∷ 0x10 ∷ 0x01 ∷ 0x80 ∷ 0x05 ∷ I16)) answers gives (commandOf 0x08 I8 0 (0x100B ∷ []) [] oneElement I16 noFields []) 0)
-    ∷ (frame 0x0A (I8 ++ (0x34 ∷ 0x12 ∷ [])) answers gives (commandOf 0x0A I8 0 [] [] [] [] (a_number 0x1234) []) 0)
+    ∷ (frame 0x0A (I8 ++ (0x34 ∷ 0x12 ∷ [])) answers gives (commandOf 0x0A I8 0 [] [] [] [] (aNumber 0x1234) []) 0)
     ∷ (frame 0x0C I8 answers gives (commandOf 0x0C I8 0 [] [] [] [] noFields []) 0)
     ∷ (frame 0x0E (I8 ++ (0x01 ∷ 0x0B ∷ 0x10 ∷ [])) answers gives (commandOf 0x0E I8 0 (0x100B ∷ []) [] [] [] noFields []) 0)
     ∷ (frame 0x10 (I8 ++ (0x01 ∷ 0x0B ∷ 0x10 ∷ 0x01 ∷ 0x0C ∷ 0x10 ∷ I8)) answers gives (commandOf 0x10 I8 0 (0x100B ∷ []) (0x100C ∷ []) [] [] (aChallenge (I8 ++ zeros 8)) []) 0)
@@ -104,9 +104,9 @@ everyCode =
     ∷ (frame 0x1E (I8 ++ (0x01 ∷ 0x0B ∷ 0x10 ∷ [])) answers gives (commandOf 0x1E I8 0 (0x100B ∷ []) [] [] [] noFields []) 0)
     ∷ (frame 0x20 (I8 ++ (0x00 ∷ 0x00 ∷ 0x00 ∷ 0x00 ∷ 0x00 ∷ 0x01 ∷ 0x00 ∷ 0x00 ∷ [])) answers gives (commandOf 0x20 I8 0 [] [] [] [] (endFields 0 0 0 1 (zeros 16)) []) 0)
     ∷ (frame 0x22 (I8 ++ (0x00 ∷ 0x00 ∷ [])) answers gives (commandOf 0x22 I8 0 [] [] [] [] noFields []) 0)
-    ∷ (frame 0x24 (I8 ++ (0x34 ∷ 0x12 ∷ [])) answers gives (commandOf 0x24 I8 0 [] [] [] [] (a_number 0x1234) []) 0)
+    ∷ (frame 0x24 (I8 ++ (0x34 ∷ 0x12 ∷ [])) answers gives (commandOf 0x24 I8 0 [] [] [] [] (aNumber 0x1234) []) 0)
     ∷ (frame 0x28 (I8 ++ (0x01 ∷ 0x01 ∷ 0x0B ∷ 0x10 ∷ [])) answers gives (commandOf 0x28 I8 1 (0x100B ∷ []) [] [] [] noFields []) 0)
-    ∷ (frame 0x2E (0x34 ∷ 0x12 ∷ []) answers gives (commandOf 0x2E (zeros 8) 0 [] [] [] [] (a_number 0x1234) []) 0)
+    ∷ (frame 0x2E (0x34 ∷ 0x12 ∷ []) answers gives (commandOf 0x2E (zeros 8) 0 [] [] [] [] (aNumber 0x1234) []) 0)
     ∷ (frame 0x32 (I8 ++ (0x01 ∷ 0x0B ∷ 0x10 ∷ [])) answers gives (commandOf 0x32 I8 0 (0x100B ∷ []) [] [] [] noFields []) 0)
     ∷ (frame 0x38 (I8 ++ (0x00 ∷ 0x00 ∷ [])) answers gives (commandOf 0x38 I8 0 [] [] [] [] noFields []) 0)
     ∷ (frame 0x3A I8 answers gives (commandOf 0x3A I8 0 [] [] [] [] noFields []) 0)
@@ -120,7 +120,7 @@ everyCode =
     ∷ (readSecure 0x44 (0x01 ∷ 0x80 ∷ 0x05 ∷ 0xAA ∷ []) answers gives (commandOf 0x44 (zeros 8) 0 [] [] oneElement [] noFields []) 0)
     ∷ (readSecure 0x46 (0x01 ∷ 0x80 ∷ 0x05 ∷ I16 ++ (0xAA ∷ [])) answers gives (commandOf 0x46 (zeros 8) 0 [] [] oneElement I16 noFields []) 0)
     ∷ (readSecure 0x80 (I16 ++ (0xAA ∷ [])) answers gives (commandOf 0x80 (zeros 8) 0 [] [] [] [] (aChallenge I16) (0xAA ∷ [])) 0)
-    ∷ (readSecure 0x82 (0x34 ∷ 0x12 ∷ 0xAA ∷ []) answers gives (commandOf 0x82 (zeros 8) 0 [] [] [] [] (a_number 0x1234) (0xAA ∷ [])) 0)
-    ∷ (readSecure 0x84 (0x34 ∷ 0x12 ∷ 0xAA ∷ []) answers gives (commandOf 0x84 (zeros 8) 0 [] [] [] [] (a_number 0x1234) (0xAA ∷ [])) 0)
+    ∷ (readSecure 0x82 (0x34 ∷ 0x12 ∷ 0xAA ∷ []) answers gives (commandOf 0x82 (zeros 8) 0 [] [] [] [] (aNumber 0x1234) (0xAA ∷ [])) 0)
+    ∷ (readSecure 0x84 (0x34 ∷ 0x12 ∷ 0xAA ∷ []) answers gives (commandOf 0x84 (zeros 8) 0 [] [] [] [] (aNumber 0x1234) (0xAA ∷ [])) 0)
     ∷ (readSecure 0x8E [] answers gives (commandOf 0x8E (zeros 8) 0 [] [] [] [] noFields []) 0)
     ∷ []

@@ -137,22 +137,22 @@ has [] code = false
 has (row ∷ rows) code = eqb code row.code || has rows code
 
 -- "Every one of the 256 codes has a class: 25 plain, 8 secure, 223 unknown"
-unfoldable pub class_of : ℕ → Class
-class_of code = cond (has plainRows code) Plain (cond (has secureRows code) Secure Unknown)
+unfoldable pub classOf : ℕ → Class
+classOf code = cond (has plainRows code) Plain (cond (has secureRows code) Secure Unknown)
 
 -- the layout of a code's row; `ends bare` where it has none
 unfoldable pub layoutIn : List Row → ℕ → Layout
 layoutIn [] code = ends bare
 layoutIn (row ∷ rows) code = cond (eqb code row.code) row.layout (layoutIn rows code)
 
-unfoldable pub layout_of : ℕ → Layout
-layout_of code = cond (has plainRows code) (layoutIn plainRows code) (layoutIn secureRows code)
+unfoldable pub layoutOf : ℕ → Layout
+layoutOf code = cond (has plainRows code) (layoutIn plainRows code) (layoutIn secureRows code)
 
 -- "The least and greatest count of each plain code": of its code list, "0 and 0 where a layout has none"
-abbrev pub bounds_of : Codes → Bounds
-bounds_of noCodes = record { least = 0; greatest = 0 }
-bounds_of (lo to hi) = record { least = lo; greatest = hi }
+abbrev pub boundsOf : Codes → Bounds
+boundsOf noCodes = record { least = 0; greatest = 0 }
+boundsOf (lo to hi) = record { least = lo; greatest = hi }
 
 -- the bounds of the plain rows by their place, from 0; where there is a second list, it has those of the first (`second-bounds` in proofs/Rows.antt)
 unfoldable pub boundsAt : ℕ → Bounds
-boundsAt i = bounds_of (get_or plainRows i (0 is ends bare)).layout.first
+boundsAt i = boundsOf (get_or plainRows i (0 is ends bare)).layout.first

@@ -4,9 +4,9 @@
 use Rattle.std.specs.Prelude.{ℕ, ◌≤◌, ◌<◌, ◌≡◌, true, false, List, ◌∷◌, ◌++◌, length}
 use Rattle.felica_format.specs.Basic.{Bytes, taken}
 use Rattle.felica_format.specs.Command.{Command, Element, elementsOf}
-use Rattle.felica_format.specs.Layout.{layout_of}
+use Rattle.felica_format.specs.Layout.{layoutOf}
 use Rattle.felica_format.specs.Read.{readElement, gives, readPayload, readFrame, readSecure}
-use Rattle.felica_format.specs.Write.{Forms, shortBytes, longBytes, longIn, bodyBytes, frame_of, secureOf}
+use Rattle.felica_format.specs.Write.{Forms, shortBytes, longBytes, longIn, bodyBytes, frameOf, secureOf}
 use Rattle.felica_format.specs.Writable.{elementOk}
 use Rattle.felica_format.specs.Demand3.{HasFrame, HasPayload, MayFollow}
 
@@ -21,7 +21,7 @@ FormTold =
 -- accepted frame and secure payload is such a choice.
 abbrev pub FrameLongCounted : Type 0
 FrameLongCounted =
-    (c : Command) → HasFrame c → (forms : Forms) → length (frame_of forms c) ≤ 255 → readFrame (frame_of forms c) ≡ gives c (longIn forms (elementsOf c))
+    (c : Command) → HasFrame c → (forms : Forms) → length (frameOf forms c) ≤ 255 → readFrame (frameOf forms c) ≡ gives c (longIn forms (elementsOf c))
 
 abbrev pub PayloadLongCounted : Type 0
 PayloadLongCounted =
@@ -34,7 +34,7 @@ HasPlain c = (s : List ℕ) × Bytes s × (long : ℕ) × (readPayload s ≡ giv
 
 abbrev pub PlainLongCounted : Type 0
 PlainLongCounted =
-    (c : Command) → HasPlain c → (forms : Forms) → readPayload (c.code ∷ bodyBytes (layout_of c.code) forms c) ≡ gives c (longIn forms (elementsOf c))
+    (c : Command) → HasPlain c → (forms : Forms) → readPayload (c.code ∷ bodyBytes (layoutOf c.code) forms c) ≡ gives c (longIn forms (elementsOf c))
 
 -- "Two frames of one command may now differ in that count, while the command itself compares as before."
 abbrev pub CountsDiffer : Type 0

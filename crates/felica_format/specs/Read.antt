@@ -6,10 +6,10 @@ use Rattle.std.proofs.Math.Option.{Option, none, some}
 use Rattle.std.specs.Int.Bits.{bit_and}
 use Rattle.felica_format.specs.declared.classes.Class.{Class}
 use Rattle.felica_format.specs.declared.classes.Class.TheVariants.{Plain, Secure, Unknown}
-use Rattle.felica_format.specs.Basic.{◌and◌, zeros, wordOf, word_at, Step, taken, refuse, bind, refuseIf}
+use Rattle.felica_format.specs.Basic.{◌and◌, zeros, wordOf, wordAt, Step, taken, refuse, bind, refuseIf}
 use Rattle.felica_format.specs.Command.{EndFields, endFields, Command, Element, Formed, longCount, commandOf}
 use Rattle.felica_format.specs.Layout.{Selector, noSelector, typeByte, anyByte, Codes, noCodes, ◌to◌, Ending, bytes, word, words, reserved}
-use Rattle.felica_format.specs.Layout.{polling, parameter, Behind, nothing, ignoredBytes, aPackage, Layout, class_of, layout_of}
+use Rattle.felica_format.specs.Layout.{polling, parameter, Behind, nothing, ignoredBytes, aPackage, Layout, classOf, layoutOf}
 
 -- n bytes, or the ground where they are not whole
 abbrev pub readBytes : ℕ → ℕ → List ℕ → Step (List ℕ)
@@ -34,12 +34,12 @@ readCount missing outside least greatest [] = refuse missing
 readCount missing outside least greatest (n ∷ s) = refuseIf (ltb n least || ltb greatest n) outside (taken n s)
 
 -- n two-byte codes; 13: code list cut off
-unfoldable pub words_of : ℕ → List ℕ → List ℕ
-words_of zero s = []
-words_of (suc n) s = word_at s 0 ∷ words_of n (drop 2 s)
+unfoldable pub wordsOf : ℕ → List ℕ → List ℕ
+wordsOf zero s = []
+wordsOf (suc n) s = wordAt s 0 ∷ wordsOf n (drop 2 s)
 
 unfoldable pub readWords : ℕ → List ℕ → Step (List ℕ)
-readWords n s = refuseIf (ltb (length s) (2 * n)) 13 (taken (words_of n s) (drop (2 * n) s))
+readWords n s = refuseIf (ltb (length s) (2 * n)) 13 (taken (wordsOf n s) (drop (2 * n) s))
 
 unfoldable pub readCodes : ℕ → ℕ → Codes → List ℕ → Step (List ℕ)
 readCodes missing outside noCodes s = taken [] s
@@ -84,13 +84,13 @@ readData false m s = taken [] s
 readData true m s = readBytes (16 * m) 17 s
 
 -- how many bytes an ending has
-abbrev pub size_of : Ending → ℕ
-size_of (bytes n) = n
-size_of word = 2
-size_of words = 4
-size_of reserved = 2
-size_of polling = 4
-size_of parameter = 8
+abbrev pub sizeOf : Ending → ℕ
+sizeOf (bytes n) = n
+sizeOf word = 2
+sizeOf words = 4
+sizeOf reserved = 2
+sizeOf polling = 4
+sizeOf parameter = 8
 
 -- The time slots of Polling: "a value below 16 that shares no set bit with its successor". Slots.antt says which values these are.
 unfoldable pub isTimeSlots : ℕ → Bool
@@ -105,8 +105,8 @@ zeroAt (suc n) s at = eqb (get_or s at 0) 0 and zeroAt n s (suc at)
 -- "Set Parameter tests size, then D0 to D3, then D6 and D7, then encryption type, then packet type."
 unfoldable pub readValues : Ending → List ℕ → Step EndFields
 readValues (bytes n) s = taken (endFields 0 0 0 0 (take n s ++ zeros (16 - n))) (drop n s)
-readValues word s = taken (endFields (word_at s 0) 0 0 0 (zeros 16)) (drop 2 s)
-readValues words s = taken (endFields (word_at s 0) (word_at s 2) 0 0 (zeros 16)) (drop 4 s)
+readValues word s = taken (endFields (wordAt s 0) 0 0 0 (zeros 16)) (drop 2 s)
+readValues words s = taken (endFields (wordAt s 0) (wordAt s 2) 0 0 (zeros 16)) (drop 4 s)
 readValues reserved s =
     refuseIf (not (zeroAt 2 s 0)) 18
     (taken (endFields 0 0 0 0 (zeros 16)) (drop 2 s))
@@ -130,7 +130,7 @@ tooLong aPackage size n = false
 -- 7: too short, challenge missing; 8: bytes past the layout, 8E not empty.
 -- "the fixed bytes that end a layout are measured first, 7 before 8, and only then are their values tested"
 unfoldable pub readEnding : Ending → Behind → List ℕ → Step EndFields
-readEnding e b s = refuseIf (ltb (length s) (size_of e)) 7 (refuseIf (tooLong b (size_of e) (length s)) 8 (readValues e s))
+readEnding e b s = refuseIf (ltb (length s) (sizeOf e)) 7 (refuseIf (tooLong b (sizeOf e) (length s)) 8 (readValues e s))
 
 -- "A package is the whole tail, which may be empty."
 unfoldable pub readPackage : Behind → List ℕ → Step (List ℕ)
@@ -152,8 +152,8 @@ abbrev pub counted : Command → ℕ → Counted
 counted c long = record { command = c; long = long }
 
 -- a body: the command, how many of its elements were long, and the bytes behind it that are ignored
-unfoldable pub read_body : ℕ → Layout → List ℕ → Step Counted
-read_body code l s =
+unfoldable pub readBody : ℕ → Layout → List ℕ → Step Counted
+readBody code l s =
     bind (readIdm l.idm s) λ idm s₁.
     bind (readSelector l.selector s₁) λ selector s₂.
     bind (readCodes 9 10 l.first s₂) λ first s₃.
@@ -169,26 +169,26 @@ pub data Answer : Type 0 where
   gives : Command → ℕ → Answer
   refused : ℕ → Option ℕ → Answer
 
-abbrev pub answer_of : ℕ → Step Counted → Answer
-answer_of code (taken r rest) = gives r.command r.long
-answer_of code (refuse n) = refused n (some code)
+abbrev pub answerOf : ℕ → Step Counted → Answer
+answerOf code (taken r rest) = gives r.command r.long
+answerOf code (refuse n) = refused n (some code)
 
 -- 4: secure code in a plain frame; 5: code unknown here
 abbrev pub readPlainAs : Class → ℕ → List ℕ → Answer
-readPlainAs Plain code s = answer_of code (read_body code (layout_of code) s)
+readPlainAs Plain code s = answerOf code (readBody code (layoutOf code) s)
 readPlainAs Secure code s = refused 4 (some code)
 readPlainAs Unknown code s = refused 5 (some code)
 
 -- "A plain code there is unsupported."
 abbrev pub readSecureAs : Class → ℕ → List ℕ → Answer
 readSecureAs Plain code s = refused 5 (some code)
-readSecureAs Secure code s = answer_of code (read_body code (layout_of code) s)
+readSecureAs Secure code s = answerOf code (readBody code (layoutOf code) s)
 readSecureAs Unknown code s = refused 5 (some code)
 
 -- the code byte and the body; 3: payload empty
 unfoldable pub readPayload : List ℕ → Answer
 readPayload [] = refused 3 none
-readPayload (code ∷ body) = readPlainAs (class_of code) code body
+readPayload (code ∷ body) = readPlainAs (classOf code) code body
 
 -- the length byte, which counts itself, and the payload; 1: empty frame; 2: length byte is not the frame's size
 unfoldable pub readFrame : List ℕ → Answer
@@ -197,4 +197,4 @@ readFrame (n ∷ payload) = cond (eqb n (suc (length payload))) (readPayload pay
 
 -- the decrypted payload of a secure code
 unfoldable pub readSecure : ℕ → List ℕ → Answer
-readSecure code s = readSecureAs (class_of code) code s
+readSecure code s = readSecureAs (classOf code) code s

@@ -5,46 +5,46 @@ use Rattle.std.specs.Prelude.{ℕ, ◌*◌, ◌-◌, Bool, true, false, cond, Li
 use Rattle.std.proofs.Math.Option.{Option, none, some}
 use Rattle.felica_format.specs.declared.classes.Class.{Class}
 use Rattle.felica_format.specs.declared.classes.Class.TheVariants.{Plain, Secure, Unknown}
-use Rattle.felica_format.specs.Basic.{◌and◌, zeros, all_below}
+use Rattle.felica_format.specs.Basic.{◌and◌, zeros, allBelow}
 use Rattle.felica_format.specs.Command.{EndFields, Command, Element, elementsOf, endFieldsOf}
 use Rattle.felica_format.specs.Layout.{Selector, noSelector, typeByte, anyByte, Codes, noCodes, ◌to◌, Ending, bytes, word, words, reserved}
-use Rattle.felica_format.specs.Layout.{polling, parameter, Behind, nothing, ignoredBytes, aPackage, Layout, class_of, layout_of}
+use Rattle.felica_format.specs.Layout.{polling, parameter, Behind, nothing, ignoredBytes, aPackage, Layout, classOf, layoutOf}
 use Rattle.felica_format.specs.Read.{isTimeSlots}
-use Rattle.felica_format.specs.Write.{frame_of, secureOf}
+use Rattle.felica_format.specs.Write.{frameOf, secureOf}
 
-abbrev pub same_list : List ℕ → List ℕ → Bool
-same_list [] [] = true
-same_list [] (y ∷ ys) = false
-same_list (x ∷ xs) [] = false
-same_list (x ∷ xs) (y ∷ ys) = eqb x y and same_list xs ys
+abbrev pub sameList : List ℕ → List ℕ → Bool
+sameList [] [] = true
+sameList [] (y ∷ ys) = false
+sameList (x ∷ xs) [] = false
+sameList (x ∷ xs) (y ∷ ys) = eqb x y and sameList xs ys
 
-abbrev pub is_empty : {A : Type 0} → List A → Bool
-is_empty [] = true
-is_empty (x ∷ xs) = false
+abbrev pub isEmpty : {A : Type 0} → List A → Bool
+isEmpty [] = true
+isEmpty (x ∷ xs) = false
 
 -- n bytes
-abbrev pub are_bytes : ℕ → List ℕ → Bool
-are_bytes n bs = eqb (length bs) n and all_below 256 bs
+abbrev pub areBytes : ℕ → List ℕ → Bool
+areBytes n bs = eqb (length bs) n and allBelow 256 bs
 
 unfoldable pub idmOk : Bool → List ℕ → Bool
-idmOk false idm = same_list idm (zeros 8)
-idmOk true idm = are_bytes 8 idm
+idmOk false idm = sameList idm (zeros 8)
+idmOk true idm = areBytes 8 idm
 
-abbrev pub is_zero : ℕ → Bool
-is_zero x = eqb x 0
+abbrev pub isZero : ℕ → Bool
+isZero x = eqb x 0
 
 -- "type 00 or 01"
-abbrev pub is_type : ℕ → Bool
-is_type x = leb x 1
+abbrev pub isType : ℕ → Bool
+isType x = leb x 1
 
 unfoldable pub selectorOk : Selector → ℕ → Bool
-selectorOk noSelector b = is_zero b
-selectorOk typeByte b = is_type b
+selectorOk noSelector b = isZero b
+selectorOk typeByte b = isType b
 selectorOk anyByte b = ltb b 256
 
 unfoldable pub codesOk : Codes → List ℕ → Bool
-codesOk noCodes ns = is_empty ns
-codesOk (least to greatest) ns = leb least (length ns) and leb (length ns) greatest and all_below 65536 ns
+codesOk noCodes ns = isEmpty ns
+codesOk (least to greatest) ns = leb least (length ns) and leb (length ns) greatest and allBelow 65536 ns
 
 -- the three lists of a block list are of one length
 unfoldable pub sameLength : List ℕ → List ℕ → List ℕ → Bool
@@ -61,12 +61,12 @@ eachOk [] = true
 eachOk (e ∷ es) = elementOk e and eachOk es
 
 unfoldable pub elementsOk : Bool → List Element → Bool
-elementsOk false es = is_empty es
+elementsOk false es = isEmpty es
 elementsOk true es = leb 1 (length es) and leb (length es) 255 and eachOk es
 
 unfoldable pub dataOk : Bool → ℕ → List ℕ → Bool
-dataOk false m bs = is_empty bs
-dataOk true m bs = are_bytes (16 * m) bs
+dataOk false m bs = isEmpty bs
+dataOk true m bs = areBytes (16 * m) bs
 
 -- The ranges of the fixed fields: number, index and option below a bound, choice one that passes a test, and a challenge
 -- whose bytes behind the first `filled` are 00.
@@ -82,12 +82,12 @@ ranges n i o c b = record { numbers = n; indices = i; options = o; choices = c; 
 
 -- a field that the layout lacks is 0: below 1, or `is_zero`
 abbrev pub rangesOf : Ending → Ranges
-rangesOf (bytes n) = ranges 1 1 1 is_zero n
-rangesOf word = ranges 65536 1 1 is_zero 0
-rangesOf words = ranges 65536 65536 1 is_zero 0
-rangesOf reserved = ranges 1 1 1 is_zero 0
+rangesOf (bytes n) = ranges 1 1 1 isZero n
+rangesOf word = ranges 65536 1 1 isZero 0
+rangesOf words = ranges 65536 65536 1 isZero 0
+rangesOf reserved = ranges 1 1 1 isZero 0
 rangesOf polling = ranges 65536 1 3 isTimeSlots 0
-rangesOf parameter = ranges 1 1 2 is_type 0
+rangesOf parameter = ranges 1 1 2 isType 0
 
 unfoldable pub endFieldsOk : Ranges → EndFields → Bool
 endFieldsOk r f =
@@ -95,13 +95,13 @@ endFieldsOk r f =
     and ltb f.index r.indices
     and ltb f.option r.options
     and r.choices f.choice
-    and are_bytes 16 f.challenge
-    and same_list (drop r.filled f.challenge) (zeros (16 - r.filled))
+    and areBytes 16 f.challenge
+    and sameList (drop r.filled f.challenge) (zeros (16 - r.filled))
 
 unfoldable pub packageOk : Behind → List ℕ → Bool
-packageOk nothing bs = is_empty bs
-packageOk ignoredBytes bs = is_empty bs
-packageOk aPackage bs = all_below 256 bs
+packageOk nothing bs = isEmpty bs
+packageOk ignoredBytes bs = isEmpty bs
+packageOk aPackage bs = allBelow 256 bs
 
 unfoldable pub bodyOk : Layout → Command → Bool
 bodyOk l c =
@@ -117,19 +117,19 @@ bodyOk l c =
 
 -- a plain command must also fit a frame of 255 bytes
 abbrev pub fitsClass : Class → Command → Bool
-fitsClass Plain c = leb (length (frame_of [] c)) 255
+fitsClass Plain c = leb (length (frameOf [] c)) 255
 fitsClass Secure c = true
 fitsClass Unknown c = false
 
 unfoldable pub writable : Command → Bool
-writable c = bodyOk (layout_of c.code) c and fitsClass (class_of c.code) c
+writable c = bodyOk (layoutOf c.code) c and fitsClass (classOf c.code) c
 
 -- "The writer makes a frame of a plain command and a payload of a secure one"
 abbrev pub shortest : Class → Command → List ℕ
-shortest Plain c = frame_of [] c
+shortest Plain c = frameOf [] c
 shortest Secure c = secureOf [] c
 shortest Unknown c = []
 
 -- what the writer writes; none where the command is unwritable
 unfoldable pub written : Command → Option (List ℕ)
-written c = cond (writable c) (some (shortest (class_of c.code) c)) none
+written c = cond (writable c) (some (shortest (classOf c.code) c)) none

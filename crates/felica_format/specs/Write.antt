@@ -1,10 +1,10 @@
 -- Writing: "A choice of forms writes the command by its layout, each block number below 256 short or long, every other long."
 -- Assumes nothing.
 use Rattle.std.specs.Prelude.{ℕ, suc, ◌+◌, ◌*◌, ◌/◌, ◌%◌, Bool, true, false, not, cond, List, [], ◌∷◌, ◌++◌, length, take, ltb}
-use Rattle.felica_format.specs.Basic.{◌and◌, word_bytes, zeros}
+use Rattle.felica_format.specs.Basic.{◌and◌, wordBytes, zeros}
 use Rattle.felica_format.specs.Command.{EndFields, Command, Element, elementsOf, endFieldsOf}
 use Rattle.felica_format.specs.Layout.{Selector, noSelector, typeByte, anyByte, Codes, noCodes, ◌to◌, Ending, bytes, word, words, reserved}
-use Rattle.felica_format.specs.Layout.{polling, parameter, Behind, nothing, ignoredBytes, aPackage, Layout, layout_of}
+use Rattle.felica_format.specs.Layout.{polling, parameter, Behind, nothing, ignoredBytes, aPackage, Layout, layoutOf}
 
 -- Of each element whether it is to be long; past the end of the list all are short. So [] is the all-short choice.
 abbrev pub Forms : Type 0
@@ -23,22 +23,22 @@ selectorBytes anyByte b = b ∷ []
 -- '"n codes" is a count byte and then n two-byte codes.'
 unfoldable pub wordsBytes : List ℕ → List ℕ
 wordsBytes [] = []
-wordsBytes (n ∷ ns) = word_bytes n ++ wordsBytes ns
+wordsBytes (n ∷ ns) = wordBytes n ++ wordsBytes ns
 
 unfoldable pub codesBytes : Codes → List ℕ → List ℕ
 codesBytes noCodes ns = []
 codesBytes (least to greatest) ns = length ns ∷ wordsBytes ns
 
 -- "An element's first byte holds bits 6 to 4 the access mode, bits 3 to 0 the place in the service list"
-abbrev pub head_of : Element → ℕ
-head_of e = 16 * e.mode + e.place
+abbrev pub headOf : Element → ℕ
+headOf e = 16 * e.mode + e.place
 
 -- "Bit 7 set: one byte of block number follows. Bit 7 clear: two bytes."
 unfoldable pub shortBytes : Element → List ℕ
-shortBytes e = (128 + head_of e) ∷ e.number ∷ []
+shortBytes e = (128 + headOf e) ∷ e.number ∷ []
 
 unfoldable pub longBytes : Element → List ℕ
-longBytes e = head_of e ∷ word_bytes e.number
+longBytes e = headOf e ∷ wordBytes e.number
 
 -- "each block number below 256 short or long, every other long"
 abbrev pub isShort : Bool → Element → Bool
@@ -70,8 +70,8 @@ dataBytes true bs = bs
 -- low byte first, "Polling's system code alone the high byte first"; reserved bytes are 00
 unfoldable pub endingBytes : Ending → EndFields → List ℕ
 endingBytes (bytes n) f = take n f.challenge
-endingBytes word f = word_bytes f.number
-endingBytes words f = word_bytes f.number ++ word_bytes f.index
+endingBytes word f = wordBytes f.number
+endingBytes words f = wordBytes f.number ++ wordBytes f.index
 endingBytes reserved f = zeros 2
 endingBytes polling f = f.number / 256 ∷ f.number % 256 ∷ f.option ∷ f.choice ∷ []
 endingBytes parameter f = zeros 4 ++ (f.option ∷ f.choice ∷ zeros 2)
@@ -94,9 +94,9 @@ bodyBytes l forms c =
     ++ packageBytes l.behind c.issuePackage))))))
 
 -- "A plain choice begins with the frame's size as length byte and the code byte"
-unfoldable pub frame_of : Forms → Command → List ℕ
-frame_of forms c = suc (suc (length (bodyBytes (layout_of c.code) forms c))) ∷ c.code ∷ bodyBytes (layout_of c.code) forms c
+unfoldable pub frameOf : Forms → Command → List ℕ
+frameOf forms c = suc (suc (length (bodyBytes (layoutOf c.code) forms c))) ∷ c.code ∷ bodyBytes (layoutOf c.code) forms c
 
 -- "a secure one has neither"
 unfoldable pub secureOf : Forms → Command → List ℕ
-secureOf forms c = bodyBytes (layout_of c.code) forms c
+secureOf forms c = bodyBytes (layoutOf c.code) forms c

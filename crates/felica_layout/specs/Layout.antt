@@ -3,7 +3,7 @@
 use Rattle.std.specs.Prelude.{ℕ}
 use Rattle.felica_format.specs.declared.classes.Class.{Class}
 use Rattle.felica_format.specs.Layout as format
-use Rattle.felica_format.specs.Layout.{class_of, layout_of}
+use Rattle.felica_format.specs.Layout.{classOf, layoutOf}
 use Rattle.felica_layout.specs.declared.Selector.{Selector}
 use Rattle.felica_layout.specs.declared.Selector.TheVariants.{NoSelector, TypeByte, AnyByte}
 use Rattle.felica_layout.specs.declared.Codes.{Codes}
@@ -50,8 +50,8 @@ pub record RowMeant : Type 0 where
 abbrev pub row : Class → format.Layout → RowMeant
 row class l = record { class = class; layout = l }
 
-unfoldable pub row_of : ℕ → RowMeant
-row_of code = row (class_of code) (layout_of code)
+unfoldable pub rowOf : ℕ → RowMeant
+rowOf code = row (classOf code) (layoutOf code)
 
 abbrev pub rowMeant : Row → RowMeant
 rowMeant r = row r.class (layoutMeant r.layout)

@@ -1,9 +1,10 @@
 // The layout of each command: one order of parts, each there or not, as specs/Layout.antt of felica_format has it in document 01's words.
 #![tactic(auto)]
+
 ghost use Rattle.std.specs.Prelude.{◌≡◌, true, false};
 ghost use Rattle.felica_format.specs.Layout.{layout, noSelector, noCodes, ◌to◌, bytes, bare, nothing, ends, has, plainRows};
 ghost use Rattle.felica_format.specs.declared.classes.Class.TheVariants.{Plain, Secure, Unknown};
-ghost use Rattle.felica_layout.specs.Layout.{selectorMeant, endingMeant, behindMeant, row, rowMeant, row_of};
+ghost use Rattle.felica_layout.specs.Layout.{selectorMeant, endingMeant, behindMeant, row, rowMeant, rowOf};
 
 use felica_format::classes::Class;
 use felica_format::constants;
@@ -74,7 +75,7 @@ pub struct Row {
 
 // The bounds of service codes are those of node codes.
 pub fn row_of(code: u8) -> Row
-    ensures { rowMeant result ≡ row_of code }
+    ensures { rowMeant result ≡ rowOf code }
 {
     match code {
         constants::POLLING_COMMAND_CODE => fixed(false, Ending::Polling),
@@ -116,7 +117,7 @@ pub fn row_of(code: u8) -> Row
 
 fn secure_row(code: u8) -> Row
     requires { has plainRows code ≡ false }
-    ensures { rowMeant result ≡ row_of code }
+    ensures { rowMeant result ≡ rowOf code }
 {
     match code {
         constants::READ_COMMAND_CODE | constants::READ_V2_COMMAND_CODE => payload_row(

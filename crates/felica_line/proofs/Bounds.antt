@@ -14,9 +14,9 @@ use Rattle.felica_format.specs.declared.classes.Class.{Class}
 use Rattle.felica_format.specs.declared.classes.Class.TheVariants.{Plain, Secure, Unknown}
 use Rattle.felica_format.specs.Basic.{Step, taken, refuse}
 use Rattle.felica_format.specs.Command.{Command, Element, Formed, longCount}
-use Rattle.felica_format.specs.Layout.{Codes, noCodes, ◌to◌, Layout, class_of, layout_of, bounds_of}
-use Rattle.felica_format.specs.Read.{readCount, readWords, readCodes, readEach, readElements, read_body, Counted, Answer as Reading, gives, refused}
-use Rattle.felica_format.specs.Read.{answer_of, readPlainAs, readPayload, readFrame}
+use Rattle.felica_format.specs.Layout.{Codes, noCodes, ◌to◌, Layout, classOf, layoutOf, boundsOf}
+use Rattle.felica_format.specs.Read.{readCount, readWords, readCodes, readEach, readElements, readBody, Counted, Answer as Reading, gives, refused}
+use Rattle.felica_format.specs.Read.{answerOf, readPlainAs, readPayload, readFrame}
 use Rattle.felica_format.proofs.Steps.{taken-value, none-taken, refuseIf-passed, refuseIf-taken, not-given}
 use Rattle.felica_format.proofs.Tests.{or-none}
 use Rattle.felica_format.proofs.Elements.{long-few}
@@ -36,7 +36,7 @@ count-few m o least greatest (x ∷ s) n r h =
     let within : x ≤ greatest = ltb-false greatest x (or-none (ltb x least) (ltb greatest x) (refuseIf-passed (ltb x least || ltb greatest x) o (taken x s) h)).1 in
     subst (λ (k : ℕ). k ≤ greatest) (taken-value (refuseIf-taken (ltb x least || ltb greatest x) o (taken x s) h)) within
 
-codes-few : (m o : ℕ) (codes : Codes) (s v r : List ℕ) → readCodes m o codes s ≡ taken v r → length v ≤ (bounds_of codes).greatest
+codes-few : (m o : ℕ) (codes : Codes) (s v r : List ℕ) → readCodes m o codes s ≡ taken v r → length v ≤ (boundsOf codes).greatest
 unfolding readCodes readWords
 codes-few m o noCodes s v r h = subst (λ (l : List ℕ). length l ≤ 0) (taken-value h) (omega arith)
 codes-few m o (least to greatest) s v r h =
@@ -56,13 +56,13 @@ elements-few m o true s es r h =
 
 -- the lists of a command are as long as a layout allows, and no more elements are long than a block list has
 record Few (l : Layout) (c : Command) (long : ℕ) : Type 0 where
-  pub first : length c.first ≤ (bounds_of l.first).greatest
-  pub second : length c.second ≤ (bounds_of l.second).greatest
+  pub first : length c.first ≤ (boundsOf l.first).greatest
+  pub second : length c.second ≤ (boundsOf l.second).greatest
   pub blocks : length c.numbers ≤ 255
   pub longs : long ≤ 255
 
-body-few : (code : ℕ) (l : Layout) (s : List ℕ) (c : Counted) (rest : List ℕ) → read_body code l s ≡ taken c rest → Few l c.command c.long
-unfolding read_body
+body-few : (code : ℕ) (l : Layout) (s : List ℕ) (c : Counted) (rest : List ℕ) → readBody code l s ≡ taken c rest → Few l c.command c.long
+unfolding readBody
 body-few code l s c rest h =
     took _ _ h λ idm s₁ h₁ k₁.
     took _ _ k₁ λ selector s₂ h₂ k₂.
@@ -95,28 +95,28 @@ FewGiven l (refused n code) = Unit {0}
 payload-few : (s : List ℕ) (c : Command) (long : ℕ) → readPayload s ≡ gives c long → Listed c long
 unfolding readPayload
 payload-few [] c long h = absurd (not-given h)
-payload-few (code ∷ body) c long h = by-class (class_of code) refl h
+payload-few (code ∷ body) c long h = by-class (classOf code) refl h
   where
-    read : (step : Step Counted) → read_body code (layout_of code) body ≡ step → class_of code ≡ Plain → answer_of code step ≡ gives c long → Listed c long
+    read : (step : Step Counted) → readBody code (layoutOf code) body ≡ step → classOf code ≡ Plain → answerOf code step ≡ gives c long → Listed c long
     read (taken d rest) is plain h =
-        let few : Few (layout_of code) c long = subst (FewGiven (layout_of code)) h (body-few code (layout_of code) body d rest is) in
+        let few : Few (layoutOf code) c long = subst (FewGiven (layoutOf code)) h (body-few code (layoutOf code) body d rest is) in
         let bounds = few-codes code plain in
         record { codes = rw (length-append c.first c.second) (omega (arith, few.first, few.second, bounds.0, bounds.1)); blocks = few.blocks; longs = few.longs }
     read (refuse n) is plain h = absurd (not-given h)
 
-    by-class : (class : Class) → class_of code ≡ class → readPlainAs class code body ≡ gives c long → Listed c long
-    by-class Plain e h = read (read_body code (layout_of code) body) refl e h
+    by-class : (class : Class) → classOf code ≡ class → readPlainAs class code body ≡ gives c long → Listed c long
+    by-class Plain e h = read (readBody code (layoutOf code) body) refl e h
     by-class Secure e h = absurd (not-given h)
     by-class Unknown e h = absurd (not-given h)
 
 pub frame-few : (s : List ℕ) (c : Command) (long : ℕ) → readFrame s ≡ gives c long → Listed c long
 unfolding readFrame
 frame-few [] c long h = absurd (not-given h)
-frame-few (n ∷ payload) c long h = by_size (eqb n (suc (length payload))) h
+frame-few (n ∷ payload) c long h = by-size (eqb n (suc (length payload))) h
   where
-    by_size : (test : Bool) → cond test (readPayload payload) (refused 2 none) ≡ gives c long → Listed c long
-    by_size true h = payload-few payload c long h
-    by_size false h = absurd (not-given h)
+    by-size : (test : Bool) → cond test (readPayload payload) (refused 2 none) ≡ gives c long → Listed c long
+    by-size true h = payload-few payload c long h
+    by-size false h = absurd (not-given h)
 
 pub blocks-few : (s : List ℕ) → blocksIn (readFrame s) ≤ 255
 blocks-few s = go (readFrame s) refl

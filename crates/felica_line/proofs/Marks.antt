@@ -6,28 +6,28 @@ use mathlib.Core.Path.{◌≡◌, refl, sym, ap, ◌∙◌}
 use mathlib.Core.List.{List, [], ◌∷◌, ◌++◌, append_assoc}
 use lib.ListN.{length, get_or, drop, length-append}
 use Rattle.felica_format.specs.Basic.{wordOf}
-use Rattle.felica_format.specs.Read.{words_of}
+use Rattle.felica_format.specs.Read.{wordsOf}
 use Rattle.felica_command.specs.Meaning.{codesAt}
 use Rattle.felica_command.specs.declared.command.Part.{Part}
 use Rattle.felica_command.proofs.Inside.{wordsOf-length}
-use Rattle.felica_cursor.proofs.Laws.{words-next, no_words}
+use Rattle.felica_cursor.proofs.Laws.{words-next, no-words}
 use Rattle.felica_put.specs.Put.{Buffer, put}
-use Rattle.felica_put.proofs.Laws.{put_rest, put-none}
+use Rattle.felica_put.proofs.Laws.{put-rest, put-none}
 use Rattle.felica_text.specs.Text.{text}
 use Rattle.felica_line.specs.Line.{markText, marksText, markField}
 
 -- one more code of a list, and none
-pub mark-next : (b : Buffer) (s : List ℕ) (at n k : ℕ) {c all : Buffer} → n ≡ suc k → put b (marksText (words_of n (drop at s))) ≡ all
-    → c ≡ put b (markText (wordOf (get_or s at 0) (get_or s (at + 1) 0))) → put c (marksText (words_of k (drop (at + 2) s))) ≡ all
+pub mark-next : (b : Buffer) (s : List ℕ) (at n k : ℕ) {c all : Buffer} → n ≡ suc k → put b (marksText (wordsOf n (drop at s))) ≡ all
+    → c ≡ put b (markText (wordOf (get_or s at 0) (get_or s (at + 1) 0))) → put c (marksText (wordsOf k (drop (at + 2) s))) ≡ all
 unfolding marksText
 mark-next b s at n k e inv turn =
-    put_rest b (markText (wordOf (get_or s at 0) (get_or s (at + 1) 0))) (marksText (words_of k (drop (at + 2) s)))
+    put-rest b (markText (wordOf (get_or s at 0) (get_or s (at + 1) 0))) (marksText (wordsOf k (drop (at + 2) s)))
     (ap (λ codes. put b (marksText codes)) (sym (words-next s at n k e)) ∙ inv)
     turn
 
-pub marks-done : (b : Buffer) (n : ℕ) (l : List ℕ) {all : Buffer} → n ≡ 0 → put b (marksText (words_of n l)) ≡ all → b ≡ all
+pub marks-done : (b : Buffer) (n : ℕ) (l : List ℕ) {all : Buffer} → n ≡ 0 → put b (marksText (wordsOf n l)) ≡ all → b ≡ all
 unfolding marksText
-marks-done b n l e inv = put-none b (marksText (words_of n l)) (ap marksText (no_words n l e)) inv
+marks-done b n l e inv = put-none b (marksText (wordsOf n l)) (ap marksText (no-words n l e)) inv
 
 marks-append : (a b : List ℕ) → marksText (a ++ b) ≡ marksText a ++ marksText b
 unfolding marksText

@@ -32,15 +32,15 @@ each-mark code P system area o k = go (isSystem code) refl (isArea code) refl (e
     go false is false low true = o
     go false is false low false = k
 
-same_byte : {a b : ℕ} → a ∷ [] ≡ b ∷ [] → a ≡ b
-same_byte h = cc
+same-byte : {a b : ℕ} → a ∷ [] ≡ b ∷ [] → a ≡ b
+same-byte h = cc
 
 pub system-exactly : SystemExactly
 system-exactly code = (
   each-mark code (λ mark. mark ≡ text "s" → code ≡ 0xFFFF) (λ is h. is)
-      (λ low h. absurd (omega (arith, same_byte h)))
-      (λ h. absurd (omega (arith, same_byte h)))
-      (λ h. absurd (omega (arith, same_byte h))),
+      (λ low h. absurd (omega (arith, same-byte h)))
+      (λ h. absurd (omega (arith, same-byte h)))
+      (λ h. absurd (omega (arith, same-byte h))),
   system-marked code,
 )
 
@@ -52,10 +52,10 @@ zero-or-one (suc (suc n)) h = absurd (omega arith)
 pub area-exactly : AreaExactly
 area-exactly code = (
   each-mark code (λ mark. mark ≡ text "a" → (code % 64 ≡ 0) ⊎ (code % 64 ≡ 1))
-      (λ is h. absurd (omega (arith, same_byte h)))
+      (λ is h. absurd (omega (arith, same-byte h)))
       (λ low h. zero-or-one (code % 64) low)
-      (λ h. absurd (omega (arith, same_byte h)))
-      (λ h. absurd (omega (arith, same_byte h))),
+      (λ h. absurd (omega (arith, same-byte h)))
+      (λ h. absurd (omega (arith, same-byte h))),
   ⊎_elim (λ (e : code % 64 ≡ 0). area-marked code (omega arith)) (λ (e : code % 64 ≡ 1). area-marked code (omega arith)),
 )
 

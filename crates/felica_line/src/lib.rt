@@ -1,9 +1,10 @@
 // The line of one frame in a listing, put into a lent buffer as felica_put puts bytes.
 #![tactic(auto)]
+
 ghost use Rattle.std.specs.Prelude.{◌≡◌};
 ghost use Rattle.felica_format.specs.Read.{readFrame};
 ghost use Rattle.felica_command.specs.Meaning.{meaning};
-ghost use Rattle.felica_command.specs.Places.{places_of, Inside};
+ghost use Rattle.felica_command.specs.Places.{placesOf, Inside};
 ghost use Rattle.felica_put.specs.Put.{buffer, put};
 ghost use Rattle.felica_line.specs.Line.{frameText, recordLine, isAccepted, blocksIn};
 
@@ -40,7 +41,7 @@ pub fn put_frame_line(out: &mut [u8], at: usize, ordinal: usize, frame: &[u8]) -
 
 // What the parser gave for the payload, without ordinal and line feed.
 fn put_result(out: &mut [u8], at: usize, payload: &[u8], parsed: Parsed) -> FrameLine
-    requires { Inside payload.now (places_of parsed) }
+    requires { Inside payload.now (placesOf parsed) }
     ensures { (buffer out.new result.next ≡ put (buffer out.old at) (frameText (meaning payload.now parsed))) × (result.accepted ≡ isAccepted (meaning payload.now parsed)) × (result.blocks ≡ blocksIn (meaning payload.now parsed)) }
 {
     let answer = parsed.answer;

@@ -2,12 +2,11 @@
 -- Assumes nothing.
 use Prim.Native.Nat.{ℕ}
 use mathlib.Core.Path.{◌≡◌, refl, sym, ap, ◌∙◌, subst}
-use mathlib.Core.Bool.{Bool, true, false, cond}
+use mathlib.Core.Bool.{Bool, true, false}
 use mathlib.Core.List.{List}
-use mathlib.Core.Option.{some}
 use Rattle.felica_format.specs.Read.{Answer as Reading}
-use Rattle.felica_command.specs.Meaning.{fields_of, refusalIs, meaning, Canonical, refusal}
-use Rattle.felica_command.specs.Places.{answerPlaces, places_of, readPlaces, Inside}
+use Rattle.felica_command.specs.Meaning.{fieldsOf, refusalIs, meaning, Canonical}
+use Rattle.felica_command.specs.Places.{answerPlaces, placesOf, readPlaces, Inside}
 use Rattle.felica_command.specs.Lists.{listsIn}
 use Rattle.felica_command.specs.declared.command.FelicaStandardCommand.{FelicaStandardCommand}
 use Rattle.felica_command.specs.declared.command.Refusal.{Refusal}
@@ -16,29 +15,17 @@ use Rattle.felica_command.specs.declared.command.Answer.{Answer}
 use Rattle.felica_command.specs.declared.command.Answer.TheVariants.{Command as AnswerCommand, Refused as AnswerRefused}
 use Rattle.felica_command.specs.declared.command.Parsed.{Parsed}
 use Rattle.felica_command.specs.declared.lists.Lists.{Lists}
-use Rattle.felica_command.proofs.Inside.{none_inside}
+use Rattle.felica_command.proofs.Inside.{none-inside}
 use Rattle.felica_lists.specs.Lists.{Buffers, fits, outcome, listed}
 use Rattle.felica_lists.specs.Rules.{ListAccount}
-use Rattle.felica_lists.specs.Fill.{listsAt, ListsInside, filled, fill, Given, given, giveFilled, giveAnswer, give}
-
--- a refusal of the parser
-pub refused-given : (s : List ℕ) (p : Parsed) (b : Buffers) {why : Refusal} → p.answer ≡ AnswerRefused why → given p b ≡ give s p b
-refused-given s p b e = ap (λ (a : Answer). giveAnswer s p a b) (sym e)
+use Rattle.felica_lists.specs.Fill.{listsAt, ListsInside, Given, given, give}
 
 -- a command, with its lists
-pub lists-inside : (s : List ℕ) (p : Parsed) {kind : FelicaStandardCommand} {l : Lists} → p.answer ≡ AnswerCommand kind → l ≡ listsIn (fields_of kind)
-    → Inside s (places_of p) → ListsInside s l
+pub lists-inside : (s : List ℕ) (p : Parsed) {kind : FelicaStandardCommand} {l : Lists} → p.answer ≡ AnswerCommand kind → l ≡ listsIn (fieldsOf kind)
+    → Inside s (placesOf p) → ListsInside s l
 lists-inside s p {kind} {l} e is inside =
     let q = subst (λ (a : Answer). Inside s (answerPlaces a)) e inside in
     subst (λ (x : Lists). ListsInside s x) (sym is) (q.0, q.1, q.2)
-
-pub command-given : (s : List ℕ) (p : Parsed) (b : Buffers) {kind : FelicaStandardCommand} {l : Lists} {done : Bool} {after : Buffers} {r : Parsed}
-    → p.answer ≡ AnswerCommand kind → l ≡ listsIn (fields_of kind) → filled done after ≡ fill (listsAt s l) b
-    → r ≡ cond done p (refusal 21 (some (fields_of kind).code)) → given r after ≡ give s p b
-command-given s p b {kind} {l} {done} {after} e is did result =
-    ap (λ (x : Parsed). given x after) result
-    ∙ ap (giveFilled p (fields_of kind).code) (did ∙ ap (λ (x : Lists). fill (listsAt s x) b) is)
-    ∙ ap (λ (a : Answer). giveAnswer s p a b) (sym e)
 
 -- what the contract says of a result and the buffers behind it
 abbrev Told : List ℕ → ℕ → Reading → Buffers → Given → Type 0
@@ -52,20 +39,20 @@ abbrev parsed : Answer → List ℕ → List ℕ → ℕ → Parsed
 parsed answer idm challenge long = record { answer = answer; idm = idm; challenge = challenge; long = long }
 
 answer-told : (s : List ℕ) (at : ℕ) (a : Answer) (idm challenge : List ℕ) (long : ℕ) (b : Buffers)
-    → places_of (parsed a idm challenge long) ≡ readPlaces at s (meaning s (parsed a idm challenge long)) → Canonical (parsed a idm challenge long)
-    → Inside s (places_of (parsed a idm challenge long)) → Told s at (meaning s (parsed a idm challenge long)) b (give s (parsed a idm challenge long) b)
+    → placesOf (parsed a idm challenge long) ≡ readPlaces at s (meaning s (parsed a idm challenge long)) → Canonical (parsed a idm challenge long)
+    → Inside s (placesOf (parsed a idm challenge long)) → Told s at (meaning s (parsed a idm challenge long)) b (give s (parsed a idm challenge long) b)
 answer-told s at (AnswerRefused why) idm challenge long b placed canonical inside = (refusal-told why b, placed, canonical, inside)
-answer-told s at (AnswerCommand kind) idm challenge long b placed canonical inside = go (fits (listsAt s (listsIn (fields_of kind))) b) refl
+answer-told s at (AnswerCommand kind) idm challenge long b placed canonical inside = go (fits (listsAt s (listsIn (fieldsOf kind))) b) refl
   where
     p : Parsed
     p = parsed (AnswerCommand kind) idm challenge long
 
-    go : (room : Bool) → fits (listsAt s (listsIn (fields_of kind))) b ≡ room → Told s at (meaning s p) b (give s p b)
+    go : (room : Bool) → fits (listsAt s (listsIn (fieldsOf kind))) b ≡ room → Told s at (meaning s p) b (give s p b)
     go true e = rw e (refl, placed, canonical, inside)
-    go false e = rw e (refl, refl, (refl, refl, refl), none_inside s)
+    go false e = rw e (refl, refl, (refl, refl, refl), none-inside s)
 
-pub given-told : (s : List ℕ) (at : ℕ) (reading : Reading) (p r : Parsed) (b after : Buffers) → meaning s p ≡ reading → places_of p ≡ readPlaces at s reading
-    → Canonical p → Inside s (places_of p) → given r after ≡ give s p b → Told s at reading b (given r after)
+pub given-told : (s : List ℕ) (at : ℕ) (reading : Reading) (p r : Parsed) (b after : Buffers) → meaning s p ≡ reading → placesOf p ≡ readPlaces at s reading
+    → Canonical p → Inside s (placesOf p) → given r after ≡ give s p b → Told s at reading b (given r after)
 given-told s at reading p r b after means placed canonical inside e =
     let placed' = placed ∙ ap (readPlaces at s) (sym means) in
     let told = answer-told s at p.answer p.idm p.challenge p.long b placed' canonical inside in

@@ -2,7 +2,7 @@
 -- Assumes nothing.
 use Rattle.std.specs.Prelude.{ℕ, Bool, true, false, cond, List, map}
 use Rattle.std.proofs.Math.Option.{some}
-use Rattle.felica_command.specs.Meaning.{codesAt, elementsAt, fields_of, refusal}
+use Rattle.felica_command.specs.Meaning.{codesAt, elementsAt, fieldsOf, refusal}
 use Rattle.felica_command.specs.Places.{CodesInside, ElementsInside}
 use Rattle.felica_command.specs.Lists.{listsIn}
 use Rattle.felica_command.specs.declared.command.Part.{Part}
@@ -16,8 +16,8 @@ use Rattle.felica_lists.specs.Lists.{Buffers, buffers, fits, fronts}
 abbrev pub numbersAt : List ℕ → Part → List ℕ
 numbersAt s p = map (λ e. e.number) (elementsAt s p)
 
-abbrev pub places_at : List ℕ → Part → List ℕ
-places_at s p = map (λ e. e.place) (elementsAt s p)
+abbrev pub placesAt : List ℕ → Part → List ℕ
+placesAt s p = map (λ e. e.place) (elementsAt s p)
 
 abbrev pub modesAt : List ℕ → Part → List ℕ
 modesAt s p = map (λ e. e.mode) (elementsAt s p)
@@ -25,7 +25,7 @@ modesAt s p = map (λ e. e.mode) (elementsAt s p)
 -- what the lists of a command hold in the payload s
 abbrev pub listsAt : List ℕ → Lists → Buffers
 listsAt s l =
-    buffers (codesAt s l.first_codes) (codesAt s l.second_codes) (numbersAt s l.block_list) (places_at s l.block_list)
+    buffers (codesAt s l.first_codes) (codesAt s l.second_codes) (numbersAt s l.block_list) (placesAt s l.block_list)
     (modesAt s l.block_list)
 
 -- all lists of a command lie inside the payload s
@@ -56,7 +56,7 @@ abbrev pub giveFilled : Parsed → ℕ → Filled → Given
 giveFilled parsed code f = given (cond f.done parsed (refusal 21 (some code))) f.buffers
 
 abbrev pub giveAnswer : List ℕ → Parsed → Answer → Buffers → Given
-giveAnswer s parsed (AnswerCommand kind) b = giveFilled parsed (fields_of kind).code (fill (listsAt s (listsIn (fields_of kind))) b)
+giveAnswer s parsed (AnswerCommand kind) b = giveFilled parsed (fieldsOf kind).code (fill (listsAt s (listsIn (fieldsOf kind))) b)
 giveAnswer s parsed (AnswerRefused why) b = given parsed b
 
 abbrev pub give : List ℕ → Parsed → Buffers → Given

@@ -3,7 +3,7 @@ ghost use Rattle.std.specs.Prelude.{◌≡◌, ◌≤◌, length};
 ghost use Rattle.felica_command.specs.Meaning.{codesAt};
 ghost use Rattle.felica_command.specs.Places.{CodesInside, ElementsInside};
 ghost use Rattle.felica_lists.specs.Lists.{buffers, front};
-ghost use Rattle.felica_lists.specs.Fill.{numbersAt, places_at, modesAt, listsAt, ListsInside, filled, fill as filling};
+ghost use Rattle.felica_lists.specs.Fill.{numbersAt, placesAt, modesAt, listsAt, ListsInside, filled, fill as filling};
 
 use felica_command::command::Part;
 use felica_command::lists::Lists;
@@ -63,7 +63,7 @@ fn fill_codes(payload: &[u8], list: Part, out: &mut [u16])
 
 fn fill_blocks(payload: &[u8], list: Part, numbers: &mut [u16], places: &mut [u8], modes: &mut [u8])
     requires { ElementsInside payload.now list × (list.count ≤ length numbers.old) × (list.count ≤ length places.old) × (list.count ≤ length modes.old) }
-    ensures { (numbers.new ≡ front (numbersAt payload.now list) numbers.old) × (places.new ≡ front (places_at payload.now list) places.old) × (modes.new ≡ front (modesAt payload.now list) modes.old) }
+    ensures { (numbers.new ≡ front (numbersAt payload.now list) numbers.old) × (places.new ≡ front (placesAt payload.now list) places.old) × (modes.new ≡ front (modesAt payload.now list) modes.old) }
 {
     let blocks = list.count;
     let mut at = list.start;

@@ -17,9 +17,9 @@ pub front-whole : (size : ℕ) (s : List ℕ) → size ≤ length s → front (s
 unfolding front
 front-whole size s h = rw (le-leb size (length s) h)
 
-pub front_cut : (size : ℕ) (s : List ℕ) → length s < size → front (size ∷ s) ≡ cutBy (size - length s)
+pub front-cut : (size : ℕ) (s : List ℕ) → length s < size → front (size ∷ s) ≡ cutBy (size - length s)
 unfolding front
-front_cut size s h = rw (lt-leb size (length s) h)
+front-cut size s h = rw (lt-leb size (length s) h)
 
 -- where a byte is there, something stands at the front
 pub front-some : {A : Type 0} (size : ℕ) (s : List ℕ) (a b : A) → atFront (front (size ∷ s)) a (λ missing. b) (λ frame rest. b) ≡ b
@@ -31,32 +31,32 @@ front-some size s a b = go (leb size (length s))
     go false = refl
 
 -- how many records may still be read
-pub none_left : (t : Totals) → 1000000 ≤ t.records → recordsLeft t ≡ 0
-none_left t h = omega arith
+pub none-left : (t : Totals) → 1000000 ≤ t.records → recordsLeft t ≡ 0
+none-left t h = omega arith
 
-pub one_left : (t : Totals) → t.records < 1000000 → recordsLeft t ≡ suc (1000000 - (t.records + 1))
-one_left t h = omega arith
+pub one-left : (t : Totals) → t.records < 1000000 → recordsLeft t ≡ suc (1000000 - (t.records + 1))
+one-left t h = omega arith
 
 -- the line in front of TOTAL, by the tests on what is left of the log
 module _ (t : Totals) where
-  pub nothing_left : (s : List ℕ) → length s ≡ 0 → restLine (recordsLeft t) s ≡ []
+  pub nothing-left : (s : List ℕ) → length s ≡ 0 → restLine (recordsLeft t) s ≡ []
   unfolding front
-  nothing_left [] e = go (recordsLeft t)
+  nothing-left [] e = go (recordsLeft t)
     where
       go : (n : ℕ) → restLine n [] ≡ []
       go zero = refl
       go (suc n) = refl
-  nothing_left (x ∷ s) e = absurd (omega arith)
+  nothing-left (x ∷ s) e = absurd (omega arith)
 
   pub full-left : (s : List ℕ) → (length s ≡ 0 → ⊥) → 1000000 ≤ t.records → restLine (recordsLeft t) s ≡ text "FULL" ++ lineEnd
   full-left [] some h = absurd (some refl)
-  full-left (x ∷ s) some h = rw (none_left t h)
+  full-left (x ∷ s) some h = rw (none-left t h)
 
   pub whole-left : (s : List ℕ) → (length s ≡ 0 → ⊥) → t.records < 1000000 → get_or s 0 0 ≤ length s - 1 → restLine (recordsLeft t) s ≡ []
   whole-left [] some h whole = absurd (some refl)
-  whole-left (x ∷ s) some h whole = rw (one_left t h, front-whole x s (omega arith))
+  whole-left (x ∷ s) some h whole = rw (one-left t h, front-whole x s (omega arith))
 
-  pub cut_left : (s : List ℕ) → (length s ≡ 0 → ⊥) → t.records < 1000000 → length s - 1 < get_or s 0 0
+  pub cut-left : (s : List ℕ) → (length s ≡ 0 → ⊥) → t.records < 1000000 → length s - 1 < get_or s 0 0
       → restLine (recordsLeft t) s ≡ cutLine (get_or s 0 0 - (length s - 1))
-  cut_left [] some h cut = absurd (some refl)
-  cut_left (x ∷ s) some h cut = let n : suc (length s) - 1 ≡ length s = omega arith in rw (one_left t h, front_cut x s (omega arith), n)
+  cut-left [] some h cut = absurd (some refl)
+  cut-left (x ∷ s) some h cut = let n : suc (length s) - 1 ≡ length s = omega arith in rw (one-left t h, front-cut x s (omega arith), n)

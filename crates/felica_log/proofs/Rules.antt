@@ -11,7 +11,7 @@ use lib.ListN.{length, get_or, take, drop, length-append}
 use lib.Seq.{length-take-le, take-append_seam, drop-append_seam}
 use borrow.Author.Tests.{lt-ltb}
 use Rattle.felica_format.specs.Read.{readFrame}
-use Rattle.felica_format.proofs.Tests.{and_both}
+use Rattle.felica_format.proofs.Tests.{and-both}
 use Rattle.felica_put.specs.Put.{Buffer, put}
 use Rattle.felica_put.proofs.Laws.{put-room, put-taken, kept}
 use Rattle.felica_totals.specs.declared.Totals.{Totals}
@@ -25,7 +25,7 @@ use Rattle.felica_log.specs.declared.Stop.TheVariants.{AtEnd, AtLimit, AtCut, No
 use Rattle.felica_log.specs.Step.{lacksRoom, lineRoom, roomIn, maxBlocks, roomForLine, step, restLine, endText}
 use Rattle.felica_log.specs.Rules.{lines, StepLists, StepKeeps, StepInside, Stopped, StopsExactly, SoundStart, SoundKept, SoundRoom, NoneLeft, NothingLeftOver, NoneLeftBehind, RoomUsed, EndFits}
 use Rattle.felica_log.specs.Rules.{reads, steps, after, allRead, PiecesListed, EndListed, FullListed}
-use Rattle.felica_log.proofs.Front.{none_left}
+use Rattle.felica_log.proofs.Front.{none-left}
 use Rattle.felica_log.proofs.StepResult.{StepResult, step-result}
 
 -- a text that found room stands where it was put, and what lies before and behind it is as it was
@@ -43,10 +43,10 @@ between b text (inl h) =
     ap (λ (x : Buffer). take (x.next - b.next) (drop b.next x.bytes)) is ∙ rw (long, there) (take-append_seam text behind)
 between b text (inr e) = let none : b.next - b.next ≡ 0 = omega arith in rw (e, none)
 
-up_to : (b : Buffer) (text : List ℕ) → (b.next + length text ≤ length b.bytes) ⊎ (text ≡ []) → take (put b text).next (put b text).bytes ≡ take b.next b.bytes ++ text
+up-to : (b : Buffer) (text : List ℕ) → (b.next + length text ≤ length b.bytes) ⊎ (text ≡ []) → take (put b text).next (put b text).bytes ≡ take b.next b.bytes ++ text
 unfolding put
-up_to b text (inl h) = put-taken text b.bytes b.next h
-up_to b text (inr e) = rw (e, append-nil (take b.next b.bytes))
+up-to b text (inl h) = put-taken text b.bytes b.next h
+up-to b text (inr e) = rw (e, append-nil (take b.next b.bytes))
 
 module _ (b : Buffer) (t : Totals) (piece : List ℕ) where
   result : StepResult b t 0 piece (step b t piece)
@@ -65,10 +65,10 @@ step-lists b t piece behind =
     ∙ ap (λ (x : List ℕ). x ++ listingFrom (recordsLeft (step b t piece).totals) (step b t piece).totals (drop c.far piece ++ behind)) (sym (lines-text b t piece))
     ∙ ap (λ (n : ℕ). lines b (step b t piece) ++ listingFrom (recordsLeft (step b t piece).totals) (step b t piece).totals (drop n piece ++ behind)) (sym (used-far b t piece))
 
-pub step_keeps : StepKeeps
-step_keeps b t piece =
+pub step-keeps : StepKeeps
+step-keeps b t piece =
     let c = result b t piece in (
-      ap (λ (x : Buffer). take x.next x.bytes) c.puts ∙ up_to b c.text c.room ∙ ap (λ (x : List ℕ). take b.next b.bytes ++ x) (sym (lines-text b t piece)),
+      ap (λ (x : Buffer). take x.next x.bytes) c.puts ∙ up-to b c.text c.room ∙ ap (λ (x : List ℕ). take b.next b.bytes ++ x) (sym (lines-text b t piece)),
       subst (λ (x : Buffer). drop x.next x.bytes ≡ drop x.next b.bytes) (sym c.puts) ((kept b c.text).behind (put b c.text).next (omega arith)),
     )
 
@@ -92,9 +92,9 @@ sound-kept b t piece = (result b t piece).sound
 pub sound-room : SoundRoom
 unfolding hasRoom
 sound-room t s =
-    and_both (lt-ltb (t.records + 1) (2 ^ 64) (omega (arith, s.few)))
-    (and_both (lt-ltb (t.accepted + 1) (2 ^ 64) (omega (arith, s.few, s.records)))
-    (and_both (lt-ltb (t.refused + 1) (2 ^ 64) (omega (arith, s.few, s.records)))
+    and-both (lt-ltb (t.records + 1) (2 ^ 64) (omega (arith, s.few)))
+    (and-both (lt-ltb (t.accepted + 1) (2 ^ 64) (omega (arith, s.few, s.records)))
+    (and-both (lt-ltb (t.refused + 1) (2 ^ 64) (omega (arith, s.few, s.records)))
     (lt-ltb (t.blocks + 255) (2 ^ 64) (omega (arith, s.few, s.records, s.blocks)))))
 
 nothing-whole : {frame rest : List ℕ} → nothing ≡ frameThen frame rest → ⊥
@@ -147,9 +147,9 @@ rest-length (suc n) (x ∷ s) small = go (leb x (length s))
     go true = omega arith
     go false = cut-length (x - length s) (omega (arith, small))
 
-pub end_fits : EndFits
+pub end-fits : EndFits
 unfolding endText totalLine
-end_fits t rest s small =
+end-fits t rest s small =
     let before = rest-length (recordsLeft t) rest small in
     let records = decimal-length 6 t.records (omega (arith, s.few)) in
     let accepted = decimal-length 6 t.accepted (omega (arith, s.few, s.records)) in
@@ -169,7 +169,7 @@ pieces-listed (steps b ∷ done) behind =
     pieces-listed done behind ∙ ap (λ (x : List ℕ). s.written ++ x) (step-lists b s.totals s.held behind) ∙ sym (append_assoc s.written (lines b (step b s.totals s.held)) _)
 
 -- the lines behind the records, where none is left to be read
-end-listed-from : (t : Totals) (n : ℕ) (s : List ℕ) → recordsLeft t ≡ n → NoneLeft t s
+pub end-listed-from : (t : Totals) (n : ℕ) (s : List ℕ) → recordsLeft t ≡ n → NoneLeft t s
     → listingFrom (recordsLeft t) t s ≡ endText t s
 unfolding listingFrom endText
 end-listed-from t zero s left none = rw left
@@ -189,10 +189,11 @@ end-listed actions none =
     ∙ ap (λ (x : List ℕ). s.written ++ listingFrom (recordsLeft s.totals) s.totals x) (append-nil s.held)
     ∙ ap (λ (x : List ℕ). s.written ++ x) (end-listed-from s.totals (recordsLeft s.totals) s.held refl none)
 
-full-behind : (t : Totals) (s behind : List ℕ) → 1000000 ≤ t.records → (s ≡ [] → ⊥) → listingFrom (recordsLeft t) t (s ++ behind) ≡ endText t s
+-- and where no more records may be read, whatever follows
+pub full-behind : (t : Totals) (s behind : List ℕ) → 1000000 ≤ t.records → (s ≡ [] → ⊥) → listingFrom (recordsLeft t) t (s ++ behind) ≡ endText t s
 unfolding listingFrom endText
 full-behind t [] behind full some = absurd (some refl)
-full-behind t (x ∷ s) behind full some = rw (none_left t full)
+full-behind t (x ∷ s) behind full some = rw (none-left t full)
 
 pub full-listed : FullListed
 full-listed actions behind full some =

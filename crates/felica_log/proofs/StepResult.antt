@@ -1,6 +1,6 @@
 -- What a step has done where it stopped: the text that it put, the bytes that it listed, and what holds there. One induction over the records that may be read.
 -- Assumes nothing.
-use Prim.Native.Nat.{ℕ, zero, suc, ◌+◌, ◌-◌, ◌≤◌, ◌<◌}
+use Prim.Native.Nat.{ℕ, zero, suc, ◌+◌, ◌≤◌, ◌<◌}
 use native.Mathlib.Nat.{add_comm}
 use native.Mathlib.Omega.{arith}
 use mathlib.Core.Path.{◌≡◌, refl, sym, ap, ◌∙◌, subst}
@@ -23,8 +23,8 @@ use Rattle.felica_log.specs.declared.ahead.Ahead.TheVariants.{Frame, Stop as Sto
 use Rattle.felica_log.specs.Listing.{countedAs, recordsLeft, listingFrom}
 use Rattle.felica_log.specs.Step.{Reached, reached, lineRoom, roomIn, stepFrom}
 use Rattle.felica_log.specs.Rules.{Stopped, Sound}
-use Rattle.felica_log.specs.Ahead.{ahead_of}
-use Rattle.felica_log.proofs.Front.{front-whole, one_left}
+use Rattle.felica_log.specs.Ahead.{aheadOf}
+use Rattle.felica_log.proofs.Front.{front-whole, one-left}
 use Rattle.felica_log.proofs.Turn.{Lists, frame-ahead, stop-ahead, counted-frame, counted-records, step-stopped, step-listed}
 
 -- one more record in the listing of any log that goes on with s
@@ -40,7 +40,7 @@ listing-next t s behind space size l =
     let left = counted-records t (isAccepted (readFrame (take size rest))) (blocksIn (readFrame (take size rest))) in
     let behind-it : drop (size + 1) s ≡ drop size rest = ap (λ (n : ℕ). drop n s) (add_comm size 1) ∙ sym (drop-drop size 1 s) in
     ap (λ (m : List ℕ). listingFrom (recordsLeft t) t (m ++ behind)) l.is
-    ∙ rw (one_left t l.few, front-whole size (rest ++ behind) more, take-append-le size rest behind long, drop-append-le size rest behind long, left, behind-it)
+    ∙ rw (one-left t l.few, front-whole size (rest ++ behind) more, take-append-le size rest behind long, drop-append-le size rest behind long, left, behind-it)
 
 counted-sound : (t : Totals) (frame : List ℕ) → t.records < 1000000 → Sound t → Sound (countedAs t (readFrame frame))
 counted-sound t frame few s = go (isAccepted (readFrame frame)) (blocksIn (readFrame frame)) (blocks-few frame)
@@ -61,7 +61,7 @@ pub record StepResult (b : Buffer) (t : Totals) (used : ℕ) (s : List ℕ) (r :
   pub stopped : Stopped r.stop (roomIn r.out) r.totals (drop far s)
   pub sound : Sound t → Sound r.totals
 
-stopped-here : (b : Buffer) (t : Totals) (used : ℕ) (s : List ℕ) {stop : Stop} → ahead_of s (roomIn b) t ≡ StopsBy stop → StepResult b t used s (reached b t used stop)
+stopped-here : (b : Buffer) (t : Totals) (used : ℕ) (s : List ℕ) {stop : Stop} → aheadOf s (roomIn b) t ≡ StopsBy stop → StepResult b t used s (reached b t used stop)
 unfolding put
 stopped-here b t used s e = record {
   text = [];
@@ -87,10 +87,10 @@ room-both b line text short space (inl h) =
 room-both b line text short space (inr e) = rw (e, append-nil line) (omega arith)
 
 -- one more record, and the result of the step behind it
-one_more : (b : Buffer) (t : Totals) (used : ℕ) (s : List ℕ) (size : ℕ) {r : Reached} → Lists s (roomIn b) t size
+one-more : (b : Buffer) (t : Totals) (used : ℕ) (s : List ℕ) (size : ℕ) {r : Reached} → Lists s (roomIn b) t size
     → StepResult (put b (recordLine (t.records + 1) (readFrame (take size (drop 1 s))))) (countedAs t (readFrame (take size (drop 1 s)))) (used + (size + 1)) (drop (size + 1) s) r
     → StepResult b t used s r
-one_more b t used s size {r} l rest =
+one-more b t used s size {r} l rest =
     let frame = take size (drop 1 s) in
     let line = recordLine (t.records + 1) (readFrame frame) in
     let few = l.few in
@@ -110,18 +110,18 @@ one_more b t used s size {r} l rest =
       sound = λ h. rest.sound (counted-sound t frame few h);
     }
 
-one_less : (t : Totals) (frame : List ℕ) (n : ℕ) → recordsLeft t ≡ suc n → recordsLeft (countedAs t (readFrame frame)) ≡ n
-one_less t frame n e = counted-records t (isAccepted (readFrame frame)) (blocksIn (readFrame frame)) ∙ omega arith
+one-less : (t : Totals) (frame : List ℕ) (n : ℕ) → recordsLeft t ≡ suc n → recordsLeft (countedAs t (readFrame frame)) ≡ n
+one-less t frame n e = counted-records t (isAccepted (readFrame frame)) (blocksIn (readFrame frame)) ∙ omega arith
 
 pub step-result : (n : ℕ) (b : Buffer) (t : Totals) (used : ℕ) (s : List ℕ) → recordsLeft t ≡ n → StepResult b t used s (stepFrom (recordsLeft t) b t used s)
-step-result zero b t used s left = go (ahead_of s (roomIn b) t) refl
+step-result zero b t used s left = go (aheadOf s (roomIn b) t) refl
   where
-    go : (a : Ahead) → ahead_of s (roomIn b) t ≡ a → StepResult b t used s (stepFrom (recordsLeft t) b t used s)
+    go : (a : Ahead) → aheadOf s (roomIn b) t ≡ a → StepResult b t used s (stepFrom (recordsLeft t) b t used s)
     go (StopsBy stop) e = subst (StepResult b t used s) (sym (step-stopped b t used s e)) (stopped-here b t used s e)
     go (Frame size) e = let few = (frame-ahead s (roomIn b) t e).few in absurd (omega arith)
-step-result (suc n) b t used s left = go (ahead_of s (roomIn b) t) refl (λ c u k l. step-result n c u k l)
+step-result (suc n) b t used s left = go (aheadOf s (roomIn b) t) refl (λ c u k l. step-result n c u k l)
   where
-    go : (a : Ahead) → ahead_of s (roomIn b) t ≡ a
+    go : (a : Ahead) → aheadOf s (roomIn b) t ≡ a
         → ((c : Buffer) (u : Totals) (k : ℕ) (l : List ℕ) → recordsLeft u ≡ n → StepResult c u k l (stepFrom (recordsLeft u) c u k l))
         → StepResult b t used s (stepFrom (recordsLeft t) b t used s)
     go (StopsBy stop) e later = subst (StepResult b t used s) (sym (step-stopped b t used s e)) (stopped-here b t used s e)
@@ -130,4 +130,4 @@ step-result (suc n) b t used s left = go (ahead_of s (roomIn b) t) refl (λ c u 
         let frame = take size (drop 1 s) in
         let u = countedAs t (readFrame frame) in
         subst (StepResult b t used s) (sym (step-listed b t used s size l refl (sym (counted-frame t frame l.counts))))
-        (one_more b t used s size l (later (put b (recordLine (t.records + 1) (readFrame frame))) u (used + (size + 1)) (drop (size + 1) s) (one_less t frame n left)))
+        (one-more b t used s size l (later (put b (recordLine (t.records + 1) (readFrame frame))) u (used + (size + 1)) (drop (size + 1) s) (one-less t frame n left)))

@@ -12,10 +12,9 @@ use lib.ListN.{length, get_or, take, drop, length-drop}
 use lib.Seq.{length-take-le, drop-drop}
 use borrow.Author.Tests.{ltb-true, ltb-false, leb-true, leb-false, lt-ltb, lt-leb, le-leb}
 use Rattle.felica_format.specs.Read.{readFrame}
-use Rattle.felica_format.specs.Basic.{◌and◌}
-use Rattle.felica_format.proofs.Tests.{and_both}
+use Rattle.felica_format.proofs.Tests.{and-both}
 use Rattle.felica_put.specs.Put.{Buffer, put}
-use Rattle.felica_put.proofs.Laws.{take_rest}
+use Rattle.felica_put.proofs.Laws.{take-rest}
 use Rattle.felica_totals.specs.declared.Totals.{Totals}
 use Rattle.felica_totals.specs.Count.{counted, hasRoom, countedWithin}
 use Rattle.felica_totals.proofs.Room.{room, counted-with-room}
@@ -28,22 +27,22 @@ use Rattle.felica_log.specs.declared.ahead.Ahead.TheVariants.{Frame, Stop as Sto
 use Rattle.felica_log.specs.Listing.{front, countedAs, maxRecords, recordsLeft}
 use Rattle.felica_log.specs.Step.{Reached, reached, lineRoom, roomIn, maxBlocks, stepFrom}
 use Rattle.felica_log.specs.Rules.{WholeAhead, Stopped}
-use Rattle.felica_log.specs.Ahead.{ahead_of}
-use Rattle.felica_log.proofs.Front.{front-whole, front_cut, front-some, none_left, one_left}
+use Rattle.felica_log.specs.Ahead.{aheadOf}
+use Rattle.felica_log.proofs.Front.{front-whole, front-cut, front-some, none-left, one-left}
 
 -- what `ahead_of` tests, on a list of which only the length and the first byte are known
-pub ahead_none : (s : List ℕ) (space : ℕ) (t : Totals) → length s ≡ 0 → ahead_of s space t ≡ StopsBy AtEnd
-unfolding ahead_of
-ahead_none [] space t e = refl
-ahead_none (x ∷ s) space t e = absurd (omega arith)
+pub ahead-none : (s : List ℕ) (space : ℕ) (t : Totals) → length s ≡ 0 → aheadOf s space t ≡ StopsBy AtEnd
+unfolding aheadOf
+ahead-none [] space t e = refl
+ahead-none (x ∷ s) space t e = absurd (omega arith)
 
 pub ahead-some : (s : List ℕ) (space : ℕ) (t : Totals) → (length s ≡ 0 → ⊥)
-    → ahead_of s space t
+    → aheadOf s space t
     ≡ cond (leb 1000000 t.records) (StopsBy AtLimit)
     (cond (ltb (length s - 1) (get_or s 0 0)) (StopsBy AtCut)
     (cond (ltb space 128) (StopsBy NoRoom)
     (cond (hasRoom t 255) (Frame (get_or s 0 0)) (StopsBy TotalsFull))))
-unfolding ahead_of
+unfolding aheadOf
 ahead-some [] space t some = absurd (some refl)
 ahead-some (x ∷ s) space t some = let n : suc (length s) - 1 ≡ length s = omega arith in rw n
 
@@ -60,8 +59,8 @@ abbrev Says : Ahead → List ℕ → ℕ → Totals → Type 0
 Says (Frame size) s space t = Lists s space t size
 Says (StopsBy stop) s space t = Stopped stop space t s
 
-ahead-says : (s : List ℕ) (space : ℕ) (t : Totals) → Says (ahead_of s space t) s space t
-unfolding ahead_of
+ahead-says : (s : List ℕ) (space : ℕ) (t : Totals) → Says (aheadOf s space t) s space t
+unfolding aheadOf
 ahead-says [] space t = refl
 ahead-says (x ∷ s) space t = go (leb maxRecords t.records) refl (ltb (length s) x) refl (ltb space lineRoom) refl (hasRoom t maxBlocks) refl
   where
@@ -72,7 +71,7 @@ ahead-says (x ∷ s) space t = go (leb maxRecords t.records) refl (ltb (length s
         → (fits : Bool) → hasRoom t maxBlocks ≡ fits
         → Says (cond limit (StopsBy AtLimit) (cond cut (StopsBy AtCut) (cond short (StopsBy NoRoom) (cond fits (Frame x) (StopsBy TotalsFull))))) (x ∷ s) space t
     go true l cut c short r fits f = (leb-true _ _ l, λ q. let z = ap length q in omega arith)
-    go false l true c short r fits f = (leb-false _ _ l, (x - length s, front_cut x s (ltb-true _ _ c)))
+    go false l true c short r fits f = (leb-false _ _ l, (x - length s, front-cut x s (ltb-true _ _ c)))
     go false l false c true r fits f = (ahead l c, lt-leb lineRoom space (ltb-true _ _ r))
     go false l false c false r true f = record {
       few = leb-false _ _ l;
@@ -83,10 +82,10 @@ ahead-says (x ∷ s) space t = go (leb maxRecords t.records) refl (ltb (length s
     }
     go false l false c false r false f = (ahead l c, le-leb lineRoom space (ltb-false _ _ r), f)
 
-pub frame-ahead : (s : List ℕ) (space : ℕ) (t : Totals) {size : ℕ} → ahead_of s space t ≡ Frame size → Lists s space t size
+pub frame-ahead : (s : List ℕ) (space : ℕ) (t : Totals) {size : ℕ} → aheadOf s space t ≡ Frame size → Lists s space t size
 frame-ahead s space t e = subst (λ (a : Ahead). Says a s space t) e (ahead-says s space t)
 
-pub stop-ahead : (s : List ℕ) (space : ℕ) (t : Totals) {stop : Stop} → ahead_of s space t ≡ StopsBy stop → Stopped stop space t s
+pub stop-ahead : (s : List ℕ) (space : ℕ) (t : Totals) {stop : Stop} → aheadOf s space t ≡ StopsBy stop → Stopped stop space t s
 stop-ahead s space t e = subst (λ (a : Ahead). Says a s space t) e (ahead-says s space t)
 
 -- the step stops there
@@ -100,12 +99,12 @@ step-stops : (stop : Stop) (b : Buffer) (t : Totals) (used : ℕ) (s : List ℕ)
 unfolding stepFrom
 step-stops AtEnd b t used s none = step-ended (recordsLeft t) b t used s (ap length none)
 step-stops AtLimit b t used [] (full, some) = absurd (some refl)
-step-stops AtLimit b t used (x ∷ s) (full, some) = rw (none_left t full, front-some x s AtEnd AtLimit)
-step-stops AtCut b t used s (few, (missing, cut)) = rw (one_left t few, cut)
-step-stops NoRoom b t used s ((few, (frame, rest, whole)), short) = rw (one_left t few, whole, short)
-step-stops TotalsFull b t used s ((few, (frame, rest, whole)), space, none) = rw (one_left t few, whole, space, none)
+step-stops AtLimit b t used (x ∷ s) (full, some) = rw (none-left t full, front-some x s AtEnd AtLimit)
+step-stops AtCut b t used s (few, (missing, cut)) = rw (one-left t few, cut)
+step-stops NoRoom b t used s ((few, (frame, rest, whole)), short) = rw (one-left t few, whole, short)
+step-stops TotalsFull b t used s ((few, (frame, rest, whole)), space, none) = rw (one-left t few, whole, space, none)
 
-pub step-stopped : (b : Buffer) (t : Totals) (used : ℕ) (s : List ℕ) {stop : Stop} → ahead_of s (roomIn b) t ≡ StopsBy stop
+pub step-stopped : (b : Buffer) (t : Totals) (used : ℕ) (s : List ℕ) {stop : Stop} → aheadOf s (roomIn b) t ≡ StopsBy stop
     → stepFrom (recordsLeft t) b t used s ≡ reached b t used stop
 step-stopped b t used s {stop} e = step-stops stop b t used s (stop-ahead s (roomIn b) t e)
 
@@ -118,23 +117,23 @@ counted-frame t frame h =
     let few = blocks-few frame in
     let sum : t.blocks + blocksIn (readFrame frame) < 2 ^ 64 = omega (arith, most.sum, few) in
     counted-with-room t (blocksIn (readFrame frame)) (isAccepted (readFrame frame))
-    (and_both (lt-ltb _ _ most.records) (and_both (lt-ltb _ _ most.accepted) (and_both (lt-ltb _ _ most.refused) (lt-ltb _ _ sum))))
+    (and-both (lt-ltb _ _ most.records) (and-both (lt-ltb _ _ most.accepted) (and-both (lt-ltb _ _ most.refused) (lt-ltb _ _ sum))))
 
 pub counted-records : (t : Totals) (accepted : Bool) (blocks : ℕ) → 1000000 - (counted t accepted blocks).records ≡ 1000000 - (t.records + 1)
 counted-records t true blocks = refl
 counted-records t false blocks = refl
 
 -- one more record
-listed_next : (b : Buffer) (t : Totals) (used size : ℕ) (s : List ℕ) → Lists (size ∷ s) (roomIn b) t size
+listed-next : (b : Buffer) (t : Totals) (used size : ℕ) (s : List ℕ) → Lists (size ∷ s) (roomIn b) t size
     → stepFrom (recordsLeft t) b t used (size ∷ s)
     ≡ stepFrom (recordsLeft (countedAs t (readFrame (take size s)))) (put b (recordLine (t.records + 1) (readFrame (take size s)))) (countedAs t (readFrame (take size s)))
     (used + (size + 1)) (drop size s)
 unfolding stepFrom
-listed_next b t used size s l =
+listed-next b t used size s l =
     let long : size ≤ length s = (let h = l.whole in omega arith) in
     let behind : suc (length (take size s)) ≡ size + 1 = ap suc (length-take-le size s long) ∙ sym (add-one size) in
     let left = counted-records t (isAccepted (readFrame (take size s))) (blocksIn (readFrame (take size s))) in
-    rw (one_left t l.few, front-whole size s long, l.line, l.counts, left, behind)
+    rw (one-left t l.few, front-whole size s long, l.line, l.counts, left, behind)
 
 pub step-listed : (b : Buffer) (t : Totals) (used : ℕ) (s : List ℕ) (size : ℕ) {c : Buffer} {u : Totals} → Lists s (roomIn b) t size
     → c ≡ put b (recordLine (t.records + 1) (readFrame (take size (drop 1 s))))
@@ -146,27 +145,27 @@ step-listed b t used s size {c} {u} l e q =
     let counts : countedAs t (readFrame frame) ≡ u = sym (q ∙ counted-frame t frame l.counts) in
     let rest : drop size (drop 1 s) ≡ drop (size + 1) s = drop-drop size 1 s ∙ ap (λ (n : ℕ). drop n s) (add_comm 1 size) in
     ap (stepFrom (recordsLeft t) b t used) l.is
-    ∙ listed_next b t used size (drop 1 s) (subst (λ (m : List ℕ). Lists m (roomIn b) t size) l.is l)
+    ∙ listed-next b t used size (drop 1 s) (subst (λ (m : List ℕ). Lists m (roomIn b) t size) l.is l)
     ∙ ap (λ (v : Totals). stepFrom (recordsLeft v) (put b line) v (used + (size + 1)) (drop size (drop 1 s))) counts
     ∙ ap (λ (d : Buffer). stepFrom (recordsLeft u) d u (used + (size + 1)) (drop size (drop 1 s))) (sym e)
     ∙ ap (stepFrom (recordsLeft u) c u (used + (size + 1))) rest
 
 pub frame-inside : (piece : List ℕ) (used space : ℕ) (t : Totals) {size : ℕ} → used < length piece
-    → ahead_of (take (length piece - used) (drop used piece)) space t ≡ Frame size → used + (size + 1) ≤ length piece
+    → aheadOf (take (length piece - used) (drop used piece)) space t ≡ Frame size → used + (size + 1) ≤ length piece
 frame-inside piece used space t h e =
     let whole = (frame-ahead _ space t e).whole in
-    let long = ap length (take_rest used piece) ∙ length-drop used piece in
+    let long = ap length (take-rest used piece) ∙ length-drop used piece in
     omega (arith, whole, long, h)
 
 -- The loop's invariant is stated of what is left: going on from here gives what the whole step gives. `rest` is the piece from `used` on, `space` the buffer's room.
 module _ (piece : List ℕ) (b : Buffer) (t : Totals) (used : ℕ) {all : Reached} where
-  pub turn_stopped : (rest : List ℕ) (space : ℕ) {stop : Stop} → rest ≡ drop used piece → space ≡ roomIn b → ahead_of rest space t ≡ StopsBy stop
+  pub turn-stopped : (rest : List ℕ) (space : ℕ) {stop : Stop} → rest ≡ drop used piece → space ≡ roomIn b → aheadOf rest space t ≡ StopsBy stop
       → stepFrom (recordsLeft t) b t used (drop used piece) ≡ all → reached b t used stop ≡ all
-  turn_stopped rest space is room e inv =
-      sym (step-stopped b t used (drop used piece) (ap (λ (l : List ℕ). ahead_of l (roomIn b) t) (sym is) ∙ ap (λ (n : ℕ). ahead_of rest n t) (sym room) ∙ e)) ∙ inv
+  turn-stopped rest space is room e inv =
+      sym (step-stopped b t used (drop used piece) (ap (λ (l : List ℕ). aheadOf l (roomIn b) t) (sym is) ∙ ap (λ (n : ℕ). aheadOf rest n t) (sym room) ∙ e)) ∙ inv
 
   pub turn-listed : (rest frame : List ℕ) (space size : ℕ) {c : Buffer} {u : Totals} {accepted : Bool} {blocks : ℕ} → rest ≡ drop used piece
-      → frame ≡ take size (drop 1 rest) → space ≡ roomIn b → ahead_of rest space t ≡ Frame size
+      → frame ≡ take size (drop 1 rest) → space ≡ roomIn b → aheadOf rest space t ≡ Frame size
       → c ≡ put b (recordLine (t.records + 1) (readFrame frame)) → accepted ≡ isAccepted (readFrame frame) → blocks ≡ blocksIn (readFrame frame)
       → u ≡ countedWithin t accepted blocks → stepFrom (recordsLeft t) b t used (drop used piece) ≡ all
       → stepFrom (recordsLeft u) c u (used + (size + 1)) (drop (used + (size + 1)) piece) ≡ all

@@ -10,9 +10,9 @@ use Rattle.felica_log.specs.declared.ahead.Ahead.TheVariants.{Frame, Stop}
 use Rattle.felica_log.specs.Listing.{maxRecords}
 use Rattle.felica_log.specs.Step.{lineRoom, maxBlocks}
 
-unfoldable pub ahead_of : List ℕ → ℕ → Totals → Ahead
-ahead_of [] room t = Stop AtEnd
-ahead_of (size ∷ s) room t =
+unfoldable pub aheadOf : List ℕ → ℕ → Totals → Ahead
+aheadOf [] room t = Stop AtEnd
+aheadOf (size ∷ s) room t =
     cond (leb maxRecords t.records) (Stop AtLimit)
     (cond (ltb (length s) size) (Stop AtCut)
     (cond (ltb room lineRoom) (Stop NoRoom)

@@ -1,5 +1,6 @@
 // Logs: a step over the whole records of a piece of a log, which lists them into a lent buffer, and the lines behind the last record.
 #![tactic(auto)]
+
 ghost use Rattle.std.specs.Prelude.{◌≡◌};
 ghost use Rattle.felica_log.specs.Step.{lacksRoom};
 

@@ -17,9 +17,9 @@ module _ (least most k : ℕ) (s : List ℕ) (i : ℕ) (h : i < length s) where
   unfolding entries ◌and◌
   entry-bad comma e = rw (drop-next s i 0 h, eq-eqb _ _ comma, e)
 
-  pub entry_next : get_or s i 0 ≡ 44 → entryWell least most k ≡ true → entries least most k (drop i s) ≡ entries least most 0 (drop (i + 1) s)
+  pub entry-next : get_or s i 0 ≡ 44 → entryWell least most k ≡ true → entries least most k (drop i s) ≡ entries least most 0 (drop (i + 1) s)
   unfolding entries ◌and◌
-  entry_next comma e = rw (drop-next s i 0 h, eq-eqb _ _ comma, e)
+  entry-next comma e = rw (drop-next s i 0 h, eq-eqb _ _ comma, e)
 
   pub entry-none : (get_or s i 0 ≡ 44 → ⊥) → digitOf (get_or s i 0) ≡ NoDigit → entries least most k (drop i s) ≡ false
   unfolding entries ◌and◌

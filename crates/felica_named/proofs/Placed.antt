@@ -9,7 +9,7 @@ use lib.ListN.{length, get_or, drop, drop_of_length-le}
 use borrow.Author.Tests.{eq-eqb, ne_eqb}
 use Rattle.felica_format.specs.Basic.{◌and◌}
 use Rattle.felica_put.proofs.Laws.{drop-next}
-use Rattle.felica_named.specs.Names.{beginsWith, place_in}
+use Rattle.felica_named.specs.Names.{beginsWith, placeIn}
 
 module _ (key s : List ℕ) (i : ℕ) (h : i < length key) where
   pub begins-short : length s ≤ i → beginsWith (drop i key) (drop i s) ≡ false
@@ -29,19 +29,19 @@ unfolding beginsWith
 begins-all key s i h = rw (drop_of_length-le key h)
 
 module _ (key s : List ℕ) (i : ℕ) (h : i < length s) where
-  pub place_here : beginsWith key (drop i s) ≡ true → place_in key (drop i s) ≡ 0
-  unfolding place_in
-  place_here e = rw (drop-next s i 0 h, rw (drop-next s i 0 h) at e)
+  pub place-here : beginsWith key (drop i s) ≡ true → placeIn key (drop i s) ≡ 0
+  unfolding placeIn
+  place-here e = rw (drop-next s i 0 h, rw (drop-next s i 0 h) at e)
 
-  pub place-later : beginsWith key (drop i s) ≡ false → place_in key (drop i s) ≡ suc (place_in key (drop (i + 1) s))
-  unfolding place_in
+  pub place-later : beginsWith key (drop i s) ≡ false → placeIn key (drop i s) ≡ suc (placeIn key (drop (i + 1) s))
+  unfolding placeIn
   place-later e = rw (drop-next s i 0 h, rw (drop-next s i 0 h) at e)
 
 either : (t : Bool) (n k : ℕ) → n ≤ k → cond t 0 (suc n) ≤ suc k
 either true n k h = zero-le
 either false n k h = omega arith
 
-pub place-within : (key s : List ℕ) → place_in key s ≤ length s
-unfolding place_in
+pub place-within : (key s : List ℕ) → placeIn key s ≤ length s
+unfolding placeIn
 place-within key [] = zero-le
-place-within key (d ∷ ds) = either (beginsWith key (d ∷ ds)) (place_in key ds) (length ds) (place-within key ds)
+place-within key (d ∷ ds) = either (beginsWith key (d ∷ ds)) (placeIn key ds) (length ds) (place-within key ds)

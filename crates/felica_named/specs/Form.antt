@@ -4,7 +4,7 @@ use Rattle.std.specs.Prelude.{ℕ, ◌+◌, ◌%◌, Bool, true, false, cond, Li
 use Prim.Native.Char.{code}
 use Rattle.felica_format.specs.Basic.{◌and◌}
 use Rattle.felica_text.specs.Text.{digitOf}
-use Rattle.felica_calls.specs.Field.{is_byte}
+use Rattle.felica_calls.specs.Field.{isByte}
 use Rattle.felica_calls.specs.Bytes.{isDigit, allDigits}
 
 -- so many hexadecimal digits
@@ -17,7 +17,7 @@ challengeForm s = cond (hasDigits 16 s) true (hasDigits 32 s)
 
 -- pairs of digits, or `-` for none
 abbrev pub isBytes : List ℕ → Bool
-isBytes s = cond (is_byte (code "-") s) true (cond (eqb (length s) 0) false (cond (eqb (length s % 2) 1) false (allDigits s)))
+isBytes s = cond (isByte (code "-") s) true (cond (eqb (length s) 0) false (cond (eqb (length s % 2) 1) false (allDigits s)))
 
 abbrev pub entryWell : ℕ → ℕ → ℕ → Bool
 entryWell least most k = cond (leb least k) (leb k most) false
@@ -31,7 +31,7 @@ entries least most k (d ∷ ds) =
 
 -- such entries, or `-` for none
 abbrev pub isList : ℕ → ℕ → List ℕ → Bool
-isList least most s = cond (is_byte (code "-") s) true (entries least most 0 s)
+isList least most s = cond (isByte (code "-") s) true (entries least most 0 s)
 
 unfoldable pub wellFormed : ℕ → List ℕ → Bool
 wellFormed form s =

@@ -6,9 +6,9 @@ use Rattle.felica_format.specs.Command.{Command}
 use Rattle.felica_command.specs.Handed.{handed}
 use Rattle.felica_command.specs.declared.fixed.Fixed.{Fixed}
 use Rattle.felica_put.specs.Put.{Buffer, buffer, put}
-use Rattle.felica_calls.specs.Bytes.{bytes_of}
-use Rattle.felica_named.specs.Names.{names, number_of}
-use Rattle.felica_named.specs.Values.{value_at, valueNamed, words_in, smallIn, bytesOver, byteIn, word_in, allZero}
+use Rattle.felica_calls.specs.Bytes.{bytesOf}
+use Rattle.felica_named.specs.Names.{names, numberOf}
+use Rattle.felica_named.specs.Values.{valueAt, valueNamed, wordsIn, smallIn, bytesOver, byteIn, wordIn, allZero}
 
 -- no field
 abbrev pub nowhere : ℕ
@@ -16,40 +16,40 @@ nowhere = length names
 
 -- Which field each fixed field of the writer is read from.
 unfoldable pub selectorFrom : ℕ → ℕ
-selectorFrom code = cond (eqb code 0x28) (number_of " type=") (cond (eqb code 0x40) (number_of " operation=") nowhere)
+selectorFrom code = cond (eqb code 0x28) (numberOf " type=") (cond (eqb code 0x40) (numberOf " operation=") nowhere)
 
 unfoldable pub numberFrom : ℕ → ℕ
 numberFrom code =
-    cond (eqb code 0x00) (number_of " system=")
-    (cond (eqb code 0x0A) (number_of " index=")
-    (cond (eqb code 0x1A) (number_of " parent=")
-    (cond (eqb code 0x24) (number_of " node=")
-    (cond (eqb code 0x2E) (number_of " property=")
-    (cond (eqb code 0x82) (number_of " node=")
-    (cond (eqb code 0x84) (number_of " node=")
+    cond (eqb code 0x00) (numberOf " system=")
+    (cond (eqb code 0x0A) (numberOf " index=")
+    (cond (eqb code 0x1A) (numberOf " parent=")
+    (cond (eqb code 0x24) (numberOf " node=")
+    (cond (eqb code 0x2E) (numberOf " property=")
+    (cond (eqb code 0x82) (numberOf " node=")
+    (cond (eqb code 0x84) (numberOf " node=")
     nowhere))))))
 
 unfoldable pub indexFrom : ℕ → ℕ
-indexFrom code = cond (eqb code 0x1A) (number_of " index=") nowhere
+indexFrom code = cond (eqb code 0x1A) (numberOf " index=") nowhere
 
 unfoldable pub optionFrom : ℕ → ℕ
-optionFrom code = cond (eqb code 0x00) (number_of " request=") (cond (eqb code 0x20) (number_of " encryption=") nowhere)
+optionFrom code = cond (eqb code 0x00) (numberOf " request=") (cond (eqb code 0x20) (numberOf " encryption=") nowhere)
 
 unfoldable pub choiceFrom : ℕ → ℕ
-choiceFrom code = cond (eqb code 0x00) (number_of " slots=") (cond (eqb code 0x20) (number_of " packet=") nowhere)
+choiceFrom code = cond (eqb code 0x00) (numberOf " slots=") (cond (eqb code 0x20) (numberOf " packet=") nowhere)
 
 -- a challenge of 16 bytes has the number behind that of 8 bytes
 unfoldable pub challengeFrom : ℕ → ℕ
 challengeFrom code =
-    cond (eqb code 0x10) (number_of " challenge=")
-    (cond (eqb code 0x12) (number_of " challenge=")
-    (cond (eqb code 0x40) (number_of " challenge=" + 1)
-    (cond (eqb code 0x42) (number_of " challenge=" + 1)
-    (cond (eqb code 0x80) (number_of " issue_id=")
+    cond (eqb code 0x10) (numberOf " challenge=")
+    (cond (eqb code 0x12) (numberOf " challenge=")
+    (cond (eqb code 0x40) (numberOf " challenge=" + 1)
+    (cond (eqb code 0x42) (numberOf " challenge=" + 1)
+    (cond (eqb code 0x80) (numberOf " issue_id=")
     nowhere))))
 
 unfoldable pub parameterFrom : ℕ → ℕ
-parameterFrom code = cond (eqb code 0x80) (number_of " issue_parameter=") nowhere
+parameterFrom code = cond (eqb code 0x80) (numberOf " issue_parameter=") nowhere
 
 -- whether a command has the field with the number k
 unfoldable pub takes : ℕ → ℕ → Bool
@@ -70,11 +70,11 @@ strays code k value = cond (allZero value) false (not (takes code k))
 unfoldable pub strayFrom : ℕ → List ℕ → ℕ → List ℕ → ℕ
 strayFrom code s k [] = 0
 strayFrom code s k (start ∷ starts) =
-    cond (strays code k (value_at s start)) 1 (strayFrom code s (k + 1) starts)
+    cond (strays code k (valueAt s start)) 1 (strayFrom code s (k + 1) starts)
 
 -- `system` and all behind it in the table; idm, lists, data and package are handed in as they are
 abbrev pub strayOf : ℕ → List ℕ → List ℕ → ℕ
-strayOf code s starts = strayFrom code s (number_of " system=") (drop (number_of " system=") starts)
+strayOf code s starts = strayFrom code s (numberOf " system=") (drop (numberOf " system=") starts)
 
 -- A number that the command lacks is handed as 0, or as 1 for the writer to refuse where a field was named that the command lacks.
 abbrev pub orStray : ℕ → ℕ → ℕ → ℕ
@@ -84,7 +84,7 @@ abbrev pub byteHanded : List ℕ → List ℕ → ℕ → ℕ → ℕ
 byteHanded s starts stray k = orStray k (byteIn (valueNamed s starts k)) stray
 
 abbrev pub wordHanded : List ℕ → List ℕ → ℕ → ℕ → ℕ
-wordHanded s starts stray k = orStray k (word_in (valueNamed s starts k)) stray
+wordHanded s starts stray k = orStray k (wordIn (valueNamed s starts k)) stray
 
 -- 16 bytes: of 80 the issue parameter behind the issue id
 abbrev pub challengeHanded : ℕ → List ℕ → List ℕ → List ℕ
@@ -94,7 +94,7 @@ challengeHanded code s starts =
 abbrev pub fixedWith : ℕ → List ℕ → List ℕ → ℕ → Fixed
 fixedWith code s starts stray =
     record {
-      idm = bytesOver (zeros 8) (valueNamed s starts (number_of " idm="));
+      idm = bytesOver (zeros 8) (valueNamed s starts (numberOf " idm="));
       selector = byteHanded s starts stray (selectorFrom code);
       number = wordHanded s starts stray (numberFrom code);
       index = wordHanded s starts stray (indexFrom code);
@@ -117,13 +117,13 @@ frontWith held list = frontOf (put (buffer held 0) list)
 unfoldable pub commandOver : ℕ → List ℕ → List ℕ → List ℕ → List ℕ → List ℕ → List ℕ → List ℕ → List ℕ → List ℕ → Command
 commandOver code s starts first second numbers places modes blockData issuePackage =
     handed code (fixedNamed code s starts)
-    (frontWith first (words_in (valueNamed s starts (number_of " first="))))
-    (frontWith second (words_in (valueNamed s starts (number_of " second="))))
-    (frontWith numbers (words_in (valueNamed s starts (number_of " numbers="))))
-    (frontWith places (smallIn (valueNamed s starts (number_of " places="))))
-    (frontWith modes (smallIn (valueNamed s starts (number_of " modes="))))
-    (frontWith blockData (bytes_of (valueNamed s starts (number_of " data="))))
-    (frontWith issuePackage (bytes_of (valueNamed s starts (number_of " package="))))
+    (frontWith first (wordsIn (valueNamed s starts (numberOf " first="))))
+    (frontWith second (wordsIn (valueNamed s starts (numberOf " second="))))
+    (frontWith numbers (wordsIn (valueNamed s starts (numberOf " numbers="))))
+    (frontWith places (smallIn (valueNamed s starts (numberOf " places="))))
+    (frontWith modes (smallIn (valueNamed s starts (numberOf " modes="))))
+    (frontWith blockData (bytesOf (valueNamed s starts (numberOf " data="))))
+    (frontWith issuePackage (bytesOf (valueNamed s starts (numberOf " package="))))
 
 -- The same with buffers of the lengths that the program lends: 5,119 characters hold 1,024 words or 2,560 numbers, 32,768 digits 16,384 bytes.
 abbrev pub commandNamed : ℕ → List ℕ → List ℕ → Command

@@ -14,10 +14,10 @@ beginsWith (k ∷ ks) [] = false
 beginsWith (k ∷ ks) (d ∷ ds) = eqb d k and beginsWith ks ds
 
 -- where a key stands first; the length where it does not
-unfoldable pub place_in : List ℕ → List ℕ → ℕ
-place_in key [] = 0
-place_in key (d ∷ ds) = cond (beginsWith key (d ∷ ds)) 0 (suc (place_in key ds))
+unfoldable pub placeIn : List ℕ → List ℕ → ℕ
+placeIn key [] = 0
+placeIn key (d ∷ ds) = cond (beginsWith key (d ∷ ds)) 0 (suc (placeIn key ds))
 
 -- the number of a name: its place in the table, where it stands with the space before it and the `=` behind it
-abbrev pub number_of : String → ℕ
-number_of name = place_in (text name) names
+abbrev pub numberOf : String → ℕ
+numberOf name = placeIn (text name) names

@@ -4,7 +4,7 @@ use Rattle.std.specs.Prelude.{ℕ, zero, suc, ◌+◌, not, cond, List, length, 
 use Prim.Native.Char.{code}
 use Rattle.felica_text.specs.Text.{before}
 use Rattle.felica_calls.specs.declared.fault.Fault.TheVariants.{UnknownField, FieldTwice, MalformedValue, ValueTooLong}
-use Rattle.felica_named.specs.Names.{names, place_in}
+use Rattle.felica_named.specs.Names.{names, placeIn}
 use Rattle.felica_named.specs.Form.{wellFormed, longest}
 use Rattle.felica_named.specs.declared.notes.Noted.{Noted}
 use Rattle.felica_named.specs.declared.notes.Noted.TheVariants.{Whole, Wrong}
@@ -18,18 +18,18 @@ abbrev pub notes : Noted → List ℕ → Notes
 notes answer starts = record { answer = answer; starts = starts }
 
 -- a field with the space before it; how long the name is with that space; what stands in the table n bytes behind a place
-abbrev pub field_at : List ℕ → ℕ → List ℕ
-field_at s at = take (1 + length (before (code " ") (drop (at + 1) s))) (drop at s)
+abbrev pub fieldAt : List ℕ → ℕ → List ℕ
+fieldAt s at = take (1 + length (before (code " ") (drop (at + 1) s))) (drop at s)
 
 abbrev pub nameEnd : List ℕ → ℕ
 nameEnd field = length (before (code "=") field)
 
-abbrev pub form_of : List ℕ → ℕ → ℕ → ℕ
-form_of table place n = get_or (drop place table) n 0
+abbrev pub formOf : List ℕ → ℕ → ℕ → ℕ
+formOf table place n = get_or (drop place table) n 0
 
 -- challenges of 8 and of 16 bytes are two fields
-abbrev pub slot_of : ℕ → ℕ → List ℕ → ℕ
-slot_of form place value = cond (eqb form (code "C")) (cond (eqb (length value) 32) (place + 1) place) place
+abbrev pub slotOf : ℕ → ℕ → List ℕ → ℕ
+slotOf form place value = cond (eqb form (code "C")) (cond (eqb (length value) 32) (place + 1) place) place
 
 unfoldable pub noteValue : ℕ → ℕ → List ℕ → ℕ → List ℕ → Notes
 noteValue form slot value start starts =
@@ -42,12 +42,12 @@ noteValue form slot value start starts =
 -- by its place in the table; n is how long the name is with the `=` behind it
 abbrev pub notePlaced : List ℕ → List ℕ → ℕ → ℕ → ℕ → List ℕ → Notes
 notePlaced table field at n place starts =
-    noteValue (form_of table place n) (slot_of (form_of table place n) place (drop n field)) (drop n field) (at + n) starts
+    noteValue (formOf table place n) (slotOf (formOf table place n) place (drop n field)) (drop n field) (at + n) starts
 
 unfoldable pub note : List ℕ → List ℕ → ℕ → List ℕ → Notes
 note table field at starts =
     cond (leb (length field) (nameEnd field)) (notes (Wrong UnknownField) starts)
-    (notePlaced table field at (nameEnd field + 1) (place_in (take (nameEnd field + 1) field) table) starts)
+    (notePlaced table field at (nameEnd field + 1) (placeIn (take (nameEnd field + 1) field) table) starts)
 
 -- what follows a field that was noted
 abbrev pub onward : (List ℕ → Notes) → Notes → Notes
@@ -62,7 +62,7 @@ unfoldable pub noteFrom : ℕ → List ℕ → List ℕ → ℕ → List ℕ →
 noteFrom zero table s at starts = notes Whole starts
 noteFrom (suc turns) table s at starts =
     cond (leb (length s) at) (notes Whole starts)
-    (onward (noteFrom turns table s (at + length (field_at s at))) (note table (field_at s at) at starts))
+    (onward (noteFrom turns table s (at + length (fieldAt s at))) (note table (fieldAt s at) at starts))
 
 abbrev pub fieldsNoted : List ℕ → List ℕ → Notes
 fieldsNoted s starts = noteFrom (length s) names s 0 starts

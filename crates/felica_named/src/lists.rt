@@ -1,8 +1,8 @@
 // Lists, data and package, written to lent buffers.
 ghost use Rattle.std.specs.Prelude.{◌≡◌, [], ◌∷◌};
 ghost use Rattle.felica_put.specs.Put.{buffer, put};
-ghost use Rattle.felica_calls.specs.Bytes.{bytes_of};
-ghost use Rattle.felica_named.specs.Values.{valueNamed, words_in, smallIn, numbersFrom};
+ghost use Rattle.felica_calls.specs.Bytes.{bytesOf};
+ghost use Rattle.felica_named.specs.Values.{valueNamed, wordsIn, smallIn, numbersFrom};
 
 use crate::values::{start_of, value_at};
 use felica_calls::bytes::{decode, value_of};
@@ -10,7 +10,7 @@ use felica_calls::field::is_byte;
 use felica_put::put_byte;
 
 pub fn words_named(text: &[u8], starts: &[usize], name: usize, words: &mut [u16]) -> usize
-    ensures { buffer words.new result ≡ put (buffer words.old 0) (words_in (valueNamed text.now starts.now name)) }
+    ensures { buffer words.new result ≡ put (buffer words.old 0) (wordsIn (valueNamed text.now starts.now name)) }
 {
     put_words(value_at(text, start_of(starts, name)), words)
 }
@@ -22,13 +22,13 @@ pub fn small_named(text: &[u8], starts: &[usize], name: usize, numbers: &mut [u8
 }
 
 pub fn bytes_named(text: &[u8], starts: &[usize], name: usize, bytes: &mut [u8]) -> usize
-    ensures { buffer bytes.new result ≡ put (buffer bytes.old 0) (bytes_of (valueNamed text.now starts.now name)) }
+    ensures { buffer bytes.new result ≡ put (buffer bytes.old 0) (bytesOf (valueNamed text.now starts.now name)) }
 {
     decode(value_at(text, start_of(starts, name)), bytes)
 }
 
 fn put_words(value: &[u8], words: &mut [u16]) -> usize
-    ensures { buffer words.new result ≡ put (buffer words.old 0) (words_in value.now) }
+    ensures { buffer words.new result ≡ put (buffer words.old 0) (wordsIn value.now) }
 {
     if value.len() == 0 {
         return 0;

@@ -1,6 +1,6 @@
 // The names of fields. They stand in one text (`note_fields`), since there is no table of slices, and the number of a name is its place there.
 ghost use Rattle.std.specs.Prelude.{◌≡◌};
-ghost use Rattle.felica_named.specs.Names.{beginsWith, place_in};
+ghost use Rattle.felica_named.specs.Names.{beginsWith, placeIn};
 
 // The length of that text.
 pub const NAMES: usize = 211;
@@ -57,7 +57,7 @@ pub const LONG_CHALLENGE: usize = 171;
 
 // Where `key` stands in the table first.
 pub(crate) fn place_in(table: &[u8], key: &[u8]) -> usize
-    ensures { result ≡ place_in key.now table.now }
+    ensures { result ≡ placeIn key.now table.now }
 {
     let mut i = 0;
     while i < table.len() {

@@ -1,6 +1,6 @@
 // A walk along the fields. Each is noted by where its value begins, at the number of its name, or what is wrong with it is told.
 ghost use Rattle.std.specs.Prelude.{◌≡◌, ◌+◌, ◌<◌, length};
-ghost use Rattle.felica_named.specs.Notes.{notes, fieldsNoted, noteFrom, note, noteValue, form_of, slot_of, field_at};
+ghost use Rattle.felica_named.specs.Notes.{notes, fieldsNoted, noteFrom, note, noteValue, formOf, slotOf, fieldAt};
 
 use crate::form::{longest_value, well_formed};
 use crate::names::place_in;
@@ -42,7 +42,7 @@ fn note_from(table: &[u8], text: &[u8], starts: &mut [usize]) -> Noted
 // A field with the space before it.
 fn field_at(text: &[u8], at: usize) -> &[u8]
     requires { at < length text.now }
-    ensures { result.now ≡ field_at text.now at }
+    ensures { result.now ≡ fieldAt text.now at }
 {
     let name = at + 1;
     let end = name + find(&text[name..], b' ');
@@ -71,7 +71,7 @@ fn note_field(table: &[u8], field: &[u8], at: usize, starts: &mut [usize]) -> No
 }
 
 fn form_of(table: &[u8], place: usize, behind: usize) -> u8
-    ensures { result ≡ form_of table.now place behind }
+    ensures { result ≡ formOf table.now place behind }
 {
     if table.len() <= place {
         return 0;
@@ -85,7 +85,7 @@ fn form_of(table: &[u8], place: usize, behind: usize) -> u8
 
 fn slot_of(form: u8, place: usize, value: &[u8]) -> usize
     requires { place < 18446744073709551615 }
-    ensures { result ≡ slot_of form place value.now }
+    ensures { result ≡ slotOf form place value.now }
 {
     if form == b'C' {
         if value.len() == 32 {

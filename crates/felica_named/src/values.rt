@@ -1,6 +1,6 @@
 // The values of noted fields.
 ghost use Rattle.std.specs.Prelude.{◌≡◌, get_or};
-ghost use Rattle.felica_named.specs.Values.{value_at, allZero};
+ghost use Rattle.felica_named.specs.Values.{valueAt, allZero};
 
 use felica_calls::field::field_of;
 
@@ -16,7 +16,7 @@ pub(crate) fn start_of(starts: &[usize], name: usize) -> usize
 
 // The value that begins at `start`: none at 0.
 pub(crate) fn value_at(text: &[u8], start: usize) -> &[u8]
-    ensures { result.now ≡ value_at text.now start }
+    ensures { result.now ≡ valueAt text.now start }
 {
     if start == 0 {
         return &text[..0];

@@ -1,10 +1,11 @@
 // The port of command/parse.rs: a payload. Frames are felica_frame's, secure codes felica_secure's.
 #![tactic(auto)]
+
 ghost use Rattle.std.specs.Prelude.{◌≡◌, List, ℕ, drop};
-ghost use Rattle.felica_format.specs.Layout.{class_of};
+ghost use Rattle.felica_format.specs.Layout.{classOf};
 ghost use Rattle.felica_format.specs.Read.{readPayload, readPlainAs};
 ghost use Rattle.felica_command.specs.Meaning.{meaning, Canonical};
-ghost use Rattle.felica_command.specs.Places.{places_of, readPlaces, Inside, Account};
+ghost use Rattle.felica_command.specs.Places.{placesOf, readPlaces, Inside, Account};
 ghost use Rattle.felica_parse.specs.Codes.{NotPlain};
 
 mod kinds;
@@ -23,7 +24,7 @@ use plain::{
 
 // A payload: the code byte and the body of its command.
 pub fn parse_payload(payload: &[u8]) -> Parsed
-    ensures { (meaning payload.now result ≡ readPayload payload.now) × (places_of result ≡ readPlaces 1 payload.now (readPayload payload.now)) × Canonical result × Inside payload.now (places_of result) }
+    ensures { (meaning payload.now result ≡ readPayload payload.now) × (placesOf result ≡ readPlaces 1 payload.now (readPayload payload.now)) × Canonical result × Inside payload.now (placesOf result) }
 {
     if payload.len() == 0 {
         return Parsed::refused_without_code(error::EMPTY_PAYLOAD);
@@ -81,7 +82,7 @@ pub fn parse_payload(payload: &[u8]) -> Parsed
 // A code that is no plain one, in a plain payload.
 fn refuse_code(command_code: u8) -> Parsed
     requires { NotPlain command_code }
-    ensures { (payload : List ℕ) → Account payload 1 (readPlainAs (class_of command_code) command_code (drop 1 payload)) result }
+    ensures { (payload : List ℕ) → Account payload 1 (readPlainAs (classOf command_code) command_code (drop 1 payload)) result }
 {
     let class = class_of(command_code);
     match class {

@@ -20,16 +20,16 @@ put-append b [] ws = refl
 put-append b (v ∷ vs) ws = put-append (putByte b v) vs ws
 
 -- one piece behind another
-pub put_then : (b : Buffer) (vs ws : List ℕ) {c d : Buffer} → c ≡ put b vs → d ≡ put c ws → d ≡ put b (vs ++ ws)
-put_then b vs ws first second = second ∙ ap (λ x. put x ws) first ∙ sym (put-append b vs ws)
+pub put-then : (b : Buffer) (vs ws : List ℕ) {c d : Buffer} → c ≡ put b vs → d ≡ put c ws → d ≡ put b (vs ++ ws)
+put-then b vs ws first second = second ∙ ap (λ x. put x ws) first ∙ sym (put-append b vs ws)
 
 -- the same piece in other words
-pub put_same : (b : Buffer) (vs ws : List ℕ) {c : Buffer} → c ≡ put b vs → vs ≡ ws → c ≡ put b ws
-put_same b vs ws e same = e ∙ ap (put b) same
+pub put-same : (b : Buffer) (vs ws : List ℕ) {c : Buffer} → c ≡ put b vs → vs ≡ ws → c ≡ put b ws
+put-same b vs ws e same = e ∙ ap (put b) same
 
 -- the first piece of what is to be put
-pub put_rest : (b : Buffer) (vs ws : List ℕ) {c all : Buffer} → put b (vs ++ ws) ≡ all → c ≡ put b vs → put c ws ≡ all
-put_rest b vs ws e first = ap (λ x. put x ws) first ∙ sym (put-append b vs ws) ∙ e
+pub put-rest : (b : Buffer) (vs ws : List ℕ) {c all : Buffer} → put b (vs ++ ws) ≡ all → c ≡ put b vs → put c ws ≡ all
+put-rest b vs ws e first = ap (λ x. put x ws) first ∙ sym (put-append b vs ws) ∙ e
 
 pub put-none : (b : Buffer) (vs : List ℕ) {all : Buffer} → vs ≡ [] → put b vs ≡ all → b ≡ all
 unfolding put
@@ -40,15 +40,15 @@ pub drop-next {ℓ} : {A : Type ℓ} (l : List A) (i : ℕ) (d : A) → i < leng
 drop-next l i d h = drop-cons l i d h ∙ ap (λ (k : ℕ). get_or l i d ∷ drop k l) (sym (add-one i))
 
 -- a list from a place on, as a slice is cut
-pub take_rest : (n : ℕ) (s : List ℕ) → take (length s - n) (drop n s) ≡ drop n s
-take_rest n s = take_all (length s - n) (drop n s) (omega (arith, length-drop n s))
+pub take-rest : (n : ℕ) (s : List ℕ) → take (length s - n) (drop n s) ≡ drop n s
+take-rest n s = take_all (length s - n) (drop n s) (omega (arith, length-drop n s))
 
 -- A turn of a loop that puts f of a list, entry by entry: g is what an entry puts.
 module _ {ℓ} {A : Type ℓ} (f : List A → List ℕ) (g : A → List ℕ) (cons : (x : A) (xs : List A) → f (x ∷ xs) ≡ g x ++ f xs) where
   pub put-more : (b : Buffer) (s : List A) (i : ℕ) (d : A) {c all : Buffer} → i < length s → put b (f (drop i s)) ≡ all → c ≡ put b (g (get_or s i d))
       → put c (f (drop (i + 1) s)) ≡ all
   put-more b s i d h e turn =
-      put_rest b (g (get_or s i d)) (f (drop (i + 1) s))
+      put-rest b (g (get_or s i d)) (f (drop (i + 1) s))
       (ap (put b) (sym (ap f (drop-next s i d h) ∙ cons (get_or s i d) (drop (i + 1) s))) ∙ e)
       turn
 
@@ -58,28 +58,28 @@ pub put-done {ℓ} : {A : Type ℓ} (f : List A → List ℕ) (b : Buffer) (s : 
 put-done f b s i n h e = put-none b (f (drop i s)) (ap f (drop_of_length-le s h) ∙ n) e
 
 -- one byte where there is room, and bytes where there is none
-pub put_one : (l : List ℕ) (at i v : ℕ) → at + i < length l → buffer (set l (at + i) v) (at + (i + 1)) ≡ put (buffer l (at + i)) (v ∷ [])
+pub put-one : (l : List ℕ) (at i v : ℕ) → at + i < length l → buffer (set l (at + i) v) (at + (i + 1)) ≡ put (buffer l (at + i)) (v ∷ [])
 unfolding put
-put_one l at i v room = let n : at + (i + 1) ≡ at + i + 1 = omega arith in rw (lt-ltb _ _ room, n) refl
+put-one l at i v room = let n : at + (i + 1) ≡ at + i + 1 = omega arith in rw (lt-ltb _ _ room, n) refl
 
-put_full : (vs l : List ℕ) (at : ℕ) → length l ≤ at → put (buffer l at) vs ≡ buffer l at
+put-full : (vs l : List ℕ) (at : ℕ) → length l ≤ at → put (buffer l at) vs ≡ buffer l at
 unfolding put
-put_full [] l at full = refl
-put_full (v ∷ vs) l at full = rw (le-ltb _ _ full) (put_full vs l at full)
+put-full [] l at full = refl
+put-full (v ∷ vs) l at full = rw (le-ltb _ _ full) (put-full vs l at full)
 
 -- all is put where nothing is left of the list or of the room
 put-over : (rest l : List ℕ) (at : ℕ) {all : Buffer} → (0 < length rest → length l ≤ at) → put (buffer l at) rest ≡ all → buffer l at ≡ all
 unfolding put
 put-over [] l at full e = e
-put-over (v ∷ vs) l at full e = sym (put_full (v ∷ vs) l at (full (omega arith))) ∙ e
+put-over (v ∷ vs) l at full e = sym (put-full (v ∷ vs) l at (full (omega arith))) ∙ e
 
 -- a loop that puts a list from a place on: its start and its end
 pub put-start : (s l : List ℕ) (at : ℕ) → put (buffer l (at + 0)) (drop 0 s) ≡ put (buffer l at) s
 put-start s l at = let n : at + 0 ≡ at = omega arith in rw n refl
 
-pub put_last : (s l before : List ℕ) (at i count : ℕ) {all : Buffer} → i ≡ count → length l ≡ length before
+pub put-last : (s l before : List ℕ) (at i count : ℕ) {all : Buffer} → i ≡ count → length l ≡ length before
     → (count < length s → length before ≤ at + count) → put (buffer l (at + i)) (drop i s) ≡ all → buffer l (at + count) ≡ all
-put_last s l before at i count is same full e =
+put-last s l before at i count is same full e =
     put-over (drop count s) l (at + count) (λ left. let more : count < length s = omega (arith, length-drop count s, left) in omega (arith, full more, same))
     (ap (λ (k : ℕ). put (buffer l (at + k)) (drop k s)) (sym is) ∙ e)
 
@@ -97,8 +97,8 @@ pub put-room : (vs l : List ℕ) (at : ℕ) → at + length vs ≤ length l
 put-room vs l at h = put-sets vs l at h ∙ ap (λ m. buffer m (at + length vs)) (sets-eq vs l at h)
 
 -- the same from the start
-pub put_front : (vs l : List ℕ) → length vs ≤ length l → put (buffer l 0) vs ≡ buffer (vs ++ drop (length vs) l) (length vs)
-put_front vs l h = put-room vs l 0 (omega arith) ∙ ap (λ n. buffer (vs ++ drop n l) n) (zero-add (length vs))
+pub put-front : (vs l : List ℕ) → length vs ≤ length l → put (buffer l 0) vs ≡ buffer (vs ++ drop (length vs) l) (length vs)
+put-front vs l h = put-room vs l 0 (omega arith) ∙ ap (λ n. buffer (vs ++ drop n l) n) (zero-add (length vs))
 
 -- what stands in front of the next place then
 pub put-taken : (vs l : List ℕ) (at : ℕ) → at + length vs ≤ length l → take (put (buffer l at) vs).next (put (buffer l at) vs).bytes ≡ take at l ++ vs
@@ -117,8 +117,8 @@ pub record Kept (b c : Buffer) : Type 0 where
   pub within : b.next ≤ length b.bytes → c.next ≤ length c.bytes
   pub behind : (n : ℕ) → c.next ≤ n → drop n c.bytes ≡ drop n b.bytes
 
-kept_byte : (b : Buffer) (v : ℕ) (room : Bool) → ltb b.next (length b.bytes) ≡ room → Kept b (putByte b v)
-kept_byte b v true e =
+kept-byte : (b : Buffer) (v : ℕ) (room : Bool) → ltb b.next (length b.bytes) ≡ room → Kept b (putByte b v)
+kept-byte b v true e =
     let h = ltb-true b.next (length b.bytes) e in
     rw e (record {
       long = length-set b.bytes b.next v;
@@ -126,13 +126,13 @@ kept_byte b v true e =
       within = λ k. omega (arith, length-set b.bytes b.next v);
       behind = λ n k. drop-set-lt n b.bytes b.next v (omega arith);
     })
-kept_byte b v false e = rw e (record { long = refl; onward = omega arith; within = λ k. k; behind = λ n k. refl })
+kept-byte b v false e = rw e (record { long = refl; onward = omega arith; within = λ k. k; behind = λ n k. refl })
 
 pub kept : (b : Buffer) (vs : List ℕ) → Kept b (put b vs)
 unfolding put
 kept b [] = record { long = refl; onward = omega arith; within = λ k. k; behind = λ n k. refl }
 kept b (v ∷ vs) =
-    let first = kept_byte b v (ltb b.next (length b.bytes)) refl in
+    let first = kept-byte b v (ltb b.next (length b.bytes)) refl in
     let rest = kept (putByte b v) vs in
     record {
       long = rest.long ∙ first.long;

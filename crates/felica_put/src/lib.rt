@@ -1,5 +1,6 @@
 // Bytes put into a lent buffer at a place. Each function answers the place behind; where the buffer is full the rest is left out.
 #![tactic(auto)]
+
 ghost use Rattle.std.specs.Prelude.{◌≡◌, [], ◌∷◌, ◌+◌, ◌-◌, ◌≤◌, ◌<◌};
 ghost use Rattle.felica_put.specs.Put.{buffer, put};
 

@@ -8,15 +8,40 @@ use mathlib.Core.Path.{◌≡◌, refl, sym, ap, ◌∙◌}
 use mathlib.Core.Bool.{Bool, true, false, cond}
 use mathlib.Core.List.{List, ◌++◌}
 use lib.ListN.{length, get_or, set, take, drop, length-drop}
-use lib.Seq.{take-append-le, take_all, length-take-le, get_or-drop, paste, paste-zero, paste-suc, drop-paste}
+use lib.Seq.{drop-append_seam, take-append-le, length-take-le, get_or-drop, paste, paste-zero, paste-suc, drop-paste}
 use lib.Dec.{leb}
 use borrow.Author.Tests.{lt-leb, le-leb, leb-true}
+use Rattle.std.specs.Prelude.{Result, Ok, Err, None, Some}
+use Rattle.std.proofs.lemmas.List.{drop-take}
+use Rattle.std.specs.declared.option.Option.{Option}
+use Rattle.std.specs.Result.{result_unwrap_or}
+use Rattle.std.specs.Io.{ReadsAtMost}
+use Rattle.std.specs.Io.KnownBytes.{Consumes, ReadConsumes}
 use Rattle.felica_stream.specs.Held.{moved}
 
--- the bytes in front of a part that is written
-pub front_kept : (at : ℕ) (s behind : List ℕ) → at ≤ length s → take at (take at s ++ behind) ≡ take at s
-front_kept at s behind h =
-    take-append-le at (take at s) behind (rw (length-take-le at s h) (omega arith)) ∙ take_all at (take at s) (rw (length-take-le at s h) (omega arith))
+-- what a read puts behind that part
+behind_front : (at n : ℕ) (s buf rest : List ℕ) → at ≤ length s → n ≤ length buf → drop at (take (at + n) (take at s ++ (buf ++ rest))) ≡ take n buf
+behind_front at n s buf rest h k =
+    let front : length (take at s) ≡ at = length-take-le at s h in
+    let there : drop at (take at s ++ (buf ++ rest)) ≡ buf ++ rest = ap (λ (m : ℕ). drop m (take at s ++ (buf ++ rest))) (sym front) ∙ drop-append_seam (take at s) (buf ++ rest) in
+    drop-take at n (take at s ++ (buf ++ rest)) ∙ ap (take n) there ∙ take-append-le n buf rest k
+
+read_bound : {E : Type 0} (r : Result ℕ E) (buf : List ℕ) → ReadsAtMost r buf → result_unwrap_or r 0 ≤ length buf
+read_bound (Ok n) buf h = h.0
+read_bound (Err e) buf h = omega arith
+
+-- A read takes from the reader what it puts there, and nothing where it fails.
+read_takes : {E : Type 0} (old new : Option (List ℕ)) (r : Result ℕ E) (buf : List ℕ) → ReadConsumes old new r buf → Consumes old new (take (result_unwrap_or r 0) buf)
+read_takes old new (Ok n) buf h = h.0
+read_takes None new (Err e) buf h = tt
+read_takes (Some xs) None (Err e) buf h = h
+read_takes (Some xs) (Some ys) (Err e) buf h = sym h
+
+pub read-behind : {E : Type 0} (old new : Option (List ℕ)) (r : Result ℕ E) (at n : ℕ) (s buf rest : List ℕ) → at ≤ length s → n ≡ result_unwrap_or r 0 → ReadsAtMost r buf → ReadConsumes old new r buf
+    → Consumes old new (drop at (take (at + n) (take at s ++ (buf ++ rest))))
+read-behind old new r at n s buf rest h is bound takes =
+    let k : n ≤ length buf = rw is (read_bound r buf bound) in
+    rw (behind_front at n s buf rest h k, is) (read_takes old new r buf takes)
 
 -- nothing is moved yet
 pub move-none : (s : List ℕ) (from : ℕ) → s ≡ paste s 0 (drop from s) 0

@@ -1,10 +1,12 @@
 // A program's input and output in large pieces: input read behind what is still held, the rest of it moved to the front, and output written where room is
 // needed.
 #![tactic(auto)]
-ghost use Rattle.std.specs.Prelude.{◌≡◌, true, false, ◌+◌, ◌≤◌, ◌<◌, length, take};
+
+ghost use Rattle.std.specs.Prelude.{◌≡◌, true, false, ◌+◌, ◌-◌, ◌≤◌, ◌<◌, length, take, drop};
+ghost use Rattle.std.specs.Io.KnownBytes.{Consumes, Appends, IsAtEnd};
 ghost use Rattle.felica_stream.specs.Held.{moved, stillWaiting};
 
-use libc::{STDIN_FILENO, STDOUT_FILENO};
+use std::io::{Read, Write};
 
 // How many bytes of the input are held, and whether the read failed.
 #[derive(Clone, Copy)]
@@ -21,9 +23,12 @@ pub struct Output {
 }
 
 // Reads once behind the `held` bytes at the front of `input`, which keep their values; where there is no room behind them it reads nothing. What is read, how much,
-// and whether that fails, is the system's.
-pub fn read_more(input: &mut [u8], held: usize) -> Input
-    ensures { (result.held ≤ length input.new) × (held ≤ length input.old → held ≤ result.held) × (take held input.new ≡ take held input.old) × (length input.old ≤ held → (result.held ≡ length input.old) × (result.failed ≡ false) × (input.new ≡ input.old)) }
+// and whether that fails, is the reader's.
+pub fn read_more<R: Read>(reader: &mut R, input: &mut [u8], held: usize) -> Input
+    ensures bytes { Consumes (R.remaining reader.old) (R.remaining reader.new) (drop held (take result.held input.new)) }
+    ensures failed { result.failed ≡ true → result.held ≡ held }
+    ensures end { result.failed ≡ false → result.held ≡ held → held < length input.old → IsAtEnd (R.remaining reader.new) }
+    ensures counts { (result.held ≤ length input.new) × (held ≤ length input.old → held ≤ result.held) × (take held input.new ≡ take held input.old) × (length input.old ≤ held → (result.held ≡ length input.old) × (result.failed ≡ false) × (input.new ≡ input.old)) }
 {
     if input.len() <= held {
         return Input {
@@ -31,12 +36,11 @@ pub fn read_more(input: &mut [u8], held: usize) -> Input
             failed: false,
         };
     }
-    let part = &mut input[held..];
-    let got = libc::read(STDIN_FILENO, part);
-    let count = io::count(got, part);
+    let got = reader.read(&mut input[held..]);
+    let failed = got.is_err();
     Input {
-        held: held + count,
-        failed: got < 0,
+        held: held + got.unwrap_or(0),
+        failed: failed,
     }
 }
 
@@ -56,10 +60,11 @@ pub fn keep_rest(input: &mut [u8], from: usize, end: usize)
     }
 }
 
-// Writes the first `waiting` bytes of `out` where less than `room` is left behind them. Whether a write fails is the system's; bytes that are not there cannot be
+// Writes the first `waiting` bytes of `out` where less than `room` is left behind them. Whether a write fails is the writer's; bytes that are not there cannot be
 // written.
-pub fn make_room(out: &[u8], waiting: usize, room: usize) -> Output
-    ensures { (result.waiting ≡ stillWaiting (length out.now) waiting room) × (waiting + room ≤ length out.now → result.failed ≡ false) × (length out.now < waiting → result.failed ≡ true) }
+pub fn make_room<W: Write>(writer: &mut W, out: &[u8], waiting: usize, room: usize) -> Output
+    ensures bytes { result.failed ≡ false → Appends (W.contents writer.old) (W.contents writer.new) (take (waiting - result.waiting) out.now) }
+    ensures counts { (result.waiting ≡ stillWaiting (length out.now) waiting room) × (waiting + room ≤ length out.now → result.failed ≡ false) × (length out.now < waiting → result.failed ≡ true) }
 {
     if out.len() < waiting {
         return Output {
@@ -73,9 +78,9 @@ pub fn make_room(out: &[u8], waiting: usize, room: usize) -> Output
             failed: false,
         };
     }
-    let written = io::write_all(STDOUT_FILENO, &out[..waiting]);
+    let written = writer.write_all(&out[..waiting]);
     Output {
         waiting: 0,
-        failed: !written,
+        failed: written.is_err(),
     }
 }

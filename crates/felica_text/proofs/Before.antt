@@ -8,9 +8,9 @@ use borrow.Author.Tests.{eq-eqb, ne_eqb}
 use Rattle.felica_text.specs.Text.{before}
 use Rattle.felica_put.proofs.Laws.{drop-next}
 
-pub before_here : (b : ℕ) (s : List ℕ) (i : ℕ) → i < length s → get_or s i 0 ≡ b → before b (drop i s) ≡ []
+pub before-here : (b : ℕ) (s : List ℕ) (i : ℕ) → i < length s → get_or s i 0 ≡ b → before b (drop i s) ≡ []
 unfolding before
-before_here b s i h e = rw (drop-next s i 0 h, eq-eqb (get_or s i 0) b e)
+before-here b s i h e = rw (drop-next s i 0 h, eq-eqb (get_or s i 0) b e)
 
 pub before-later : (b : ℕ) (s : List ℕ) (i : ℕ) → i < length s → (get_or s i 0 ≡ b → ⊥)
     → before b (drop i s) ≡ get_or s i 0 ∷ before b (drop (i + 1) s)

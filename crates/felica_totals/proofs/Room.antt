@@ -7,7 +7,7 @@ use mathlib.Core.Bool.{Bool, true, false}
 use lib.Dec.{ltb, leb}
 use borrow.Author.Tests.{lt-ltb, le-ltb, ltb-true, leb-true, leb-false}
 use Rattle.felica_format.specs.Basic.{◌and◌}
-use Rattle.felica_format.proofs.Tests.{and_left, and_right}
+use Rattle.felica_format.proofs.Tests.{and-left, and-right}
 use Rattle.felica_totals.specs.declared.Totals.{Totals}
 use Rattle.felica_totals.specs.Count.{counted, hasRoom, countedWithin}
 
@@ -20,9 +20,9 @@ module _ (t : Totals) (blocks : ℕ) where
   unfolding hasRoom ◌and◌
   accepted-full r h = rw (lt-ltb _ _ r, le-ltb _ _ h)
 
-  pub refused_full : t.records + 1 < 2 ^ 64 → t.accepted + 1 < 2 ^ 64 → 2 ^ 64 ≤ t.refused + 1 → hasRoom t blocks ≡ false
+  pub refused-full : t.records + 1 < 2 ^ 64 → t.accepted + 1 < 2 ^ 64 → 2 ^ 64 ≤ t.refused + 1 → hasRoom t blocks ≡ false
   unfolding hasRoom ◌and◌
-  refused_full r a h = rw (lt-ltb _ _ r, lt-ltb _ _ a, le-ltb _ _ h)
+  refused-full r a h = rw (lt-ltb _ _ r, lt-ltb _ _ a, le-ltb _ _ h)
 
   pub blocks-left : t.records + 1 < 2 ^ 64 → t.accepted + 1 < 2 ^ 64 → t.refused + 1 < 2 ^ 64 → t.blocks < 2 ^ 64
       → leb blocks (2 ^ 64 - 1 - t.blocks) ≡ hasRoom t blocks
@@ -43,10 +43,10 @@ module _ (t : Totals) (blocks : ℕ) where
   pub room : hasRoom t blocks ≡ true → Room
   unfolding hasRoom
   room h = record {
-    records = ltb-true _ _ (and_left _ _ h);
-    accepted = ltb-true _ _ (and_left _ _ (and_right _ _ h));
-    refused = ltb-true _ _ (and_left _ _ (and_right _ _ (and_right _ _ h)));
-    sum = ltb-true _ _ (and_right _ _ (and_right _ _ (and_right _ _ h)));
+    records = ltb-true _ _ (and-left _ _ h);
+    accepted = ltb-true _ _ (and-left _ _ (and-right _ _ h));
+    refused = ltb-true _ _ (and-left _ _ (and-right _ _ (and-right _ _ h)));
+    sum = ltb-true _ _ (and-right _ _ (and-right _ _ (and-right _ _ h)));
   }
 
   pub counted-with-room : (accepted : Bool) → hasRoom t blocks ≡ true → countedWithin t accepted blocks ≡ counted t accepted blocks

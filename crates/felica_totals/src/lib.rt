@@ -1,5 +1,6 @@
 // The four running totals of a listing.
 #![tactic(auto)]
+
 ghost use Rattle.std.specs.Prelude.{◌≡◌};
 ghost use Rattle.felica_totals.specs.Count.{noTotals, hasRoom, countedWithin};
 

@@ -1,8 +1,8 @@
 // The fixed fields.
 ghost use Rattle.std.specs.Prelude.{◌≡◌, suc, ◌-◌, length, drop};
-ghost use Rattle.felica_format.specs.Basic.{◌and◌, all_below, Bytes, zeros};
+ghost use Rattle.felica_format.specs.Basic.{◌and◌, allBelow, Bytes, zeros};
 ghost use Rattle.felica_format.specs.Command.{endFields};
-ghost use Rattle.felica_format.specs.Writable.{same_list, are_bytes, idmOk, selectorOk, ranges, rangesOf, endFieldsOk};
+ghost use Rattle.felica_format.specs.Writable.{sameList, areBytes, idmOk, selectorOk, ranges, rangesOf, endFieldsOk};
 ghost use Rattle.felica_layout.specs.Layout.{selectorMeant, endingMeant};
 
 use felica_command::fixed::Fixed;
@@ -30,7 +30,7 @@ pub(crate) fn selector_ok(selector: Selector, value: u8) -> bool
 
 // Whether the bytes from a place on are zeros.
 fn zeros_from(bytes: &[u8], from: usize) -> bool
-    ensures { (result ≡ same_list (drop from bytes.now) (zeros (length bytes.now - from))) × Bytes bytes.now }
+    ensures { (result ≡ sameList (drop from bytes.now) (zeros (length bytes.now - from))) × Bytes bytes.now }
 {
     if bytes.len() < from {
         return true;
@@ -40,7 +40,7 @@ fn zeros_from(bytes: &[u8], from: usize) -> bool
 
 // Without an early exit, so that the compiler can test many bytes at once.
 fn all_zero(bytes: &[u8]) -> bool
-    ensures { result ≡ all_below 1 bytes.now }
+    ensures { result ≡ allBelow 1 bytes.now }
 {
     let mut clear = true;
     let mut i = 0;
@@ -54,7 +54,7 @@ fn all_zero(bytes: &[u8]) -> bool
 }
 
 fn challenge_ok(challenge: [u8; 16], filled: usize) -> bool
-    ensures { result ≡ (are_bytes 16 challenge and same_list (drop filled challenge) (zeros (16 - filled))) }
+    ensures { result ≡ (areBytes 16 challenge and sameList (drop filled challenge) (zeros (16 - filled))) }
 {
     // Most commands have none of it: apart, so that the compiler knows how many bytes to test.
     if filled == 0 {

@@ -1,5 +1,6 @@
 // Whether a layout can carry what was handed in: each value has the range of its part, and a part that the layout lacks is zero or empty.
 #![tactic(auto)]
+
 ghost use Rattle.std.specs.Prelude.{◌≡◌, ℕ};
 ghost use Rattle.felica_format.specs.Writable.{bodyOk};
 ghost use Rattle.felica_command.specs.Handed.{handed};

@@ -9,12 +9,12 @@ use lib.ListN.{length, get_or, drop, length-append, drop_of_length-le}
 use lib.Seq.{get_or-drop}
 use lib.Dec.{ltb}
 use borrow.Author.Tests.{ltb-true, lt-ltb, le-ltb}
-use Rattle.felica_format.specs.Basic.{◌and◌, all_below}
+use Rattle.felica_format.specs.Basic.{◌and◌, allBelow}
 use Rattle.felica_format.specs.Command.{Element, zipElements}
 use Rattle.felica_format.specs.Write.{shortBytes, longBytes, elementBytes, eachBytes, elementsBytes}
-use Rattle.felica_format.proofs.Tests.{and_left, and_right}
+use Rattle.felica_format.proofs.Tests.{and-left, and-right}
 use Rattle.felica_put.proofs.Laws.{drop-next}
-use Rattle.felica_writable.proofs.Laws.{zip_length}
+use Rattle.felica_writable.proofs.Laws.{zip-length}
 use Rattle.felica_write.specs.Size.{shortSize}
 use Rattle.felica_write.specs.Body.{element}
 
@@ -28,10 +28,10 @@ zip-at (n ∷ ns) ps ms (suc i) e h =
     rw (zip-at ns (drop 1 ps) (drop 1 ms) i e (omega arith), get_or-drop 1 ps i 0, get_or-drop 1 ms i 0, next)
 
 -- an entry of a list whose entries are below a bound
-pub small_at : (bound : ℕ) (s : List ℕ) (i : ℕ) → 0 < bound → all_below bound s ≡ true → get_or s i 0 < bound
-small_at bound [] i some h = some
-small_at bound (x ∷ xs) zero some h = ltb-true x bound (and_left (ltb x bound) (all_below bound xs) h)
-small_at bound (x ∷ xs) (suc i) some h = small_at bound xs i some (and_right (ltb x bound) (all_below bound xs) h)
+pub small-at : (bound : ℕ) (s : List ℕ) (i : ℕ) → 0 < bound → allBelow bound s ≡ true → get_or s i 0 < bound
+small-at bound [] i some h = some
+small-at bound (x ∷ xs) zero some h = ltb-true x bound (and-left (ltb x bound) (allBelow bound xs) h)
+small-at bound (x ∷ xs) (suc i) some h = small-at bound xs i some (and-right (ltb x bound) (allBelow bound xs) h)
 
 -- the two forms of an element that is written as short as may be
 pub short-form : (n p m : ℕ) → n < 256 → elementBytes false (element n p m) ≡ shortBytes (element n p m)
@@ -80,4 +80,4 @@ size-done ns i h = ap shortSize (drop_of_length-le ns h)
 pub counted : (there : Bool) (ns ps ms : List ℕ) → there ≡ true
     → (length ns ∷ []) ++ eachBytes [] (zipElements ns ps ms) ≡ elementsBytes there [] (zipElements ns ps ms)
 unfolding elementsBytes
-counted there ns ps ms e = rw (e, zip_length ns ps ms)
+counted there ns ps ms e = rw (e, zip-length ns ps ms)

@@ -9,36 +9,36 @@ use lib.ListN.{length, length-append}
 use lib.Seq.{length-take-le}
 use lib.Dec.{ltb}
 use borrow.Author.Tests.{leb-true, eqb-true}
-use Rattle.felica_format.specs.Basic.{all_below}
+use Rattle.felica_format.specs.Basic.{allBelow}
 use Rattle.felica_format.specs.Command.{EndFields, Command, Element, zipElements, elementsOf, endFieldsOf}
 use Rattle.felica_format.specs.Layout.{Selector, noSelector, typeByte, anyByte, Codes, noCodes, ◌to◌, Ending, bytes, word, words, reserved}
-use Rattle.felica_format.specs.Layout.{polling, parameter, Behind, nothing, ignoredBytes, aPackage, Layout, bounds_of}
-use Rattle.felica_format.specs.Read.{size_of}
+use Rattle.felica_format.specs.Layout.{polling, parameter, Behind, nothing, ignoredBytes, aPackage, Layout, boundsOf}
+use Rattle.felica_format.specs.Read.{sizeOf}
 use Rattle.felica_format.specs.Write.{idmBytes, selectorBytes, wordsBytes, codesBytes, elementsBytes, dataBytes, endingBytes, packageBytes, bodyBytes}
 use Rattle.felica_format.specs.Writable.{idmOk, codesOk, sameLength, eachOk, elementsOk, dataOk, Ranges, rangesOf, endFieldsOk}
 use Rattle.felica_format.specs.Writable.{packageOk, bodyOk}
-use Rattle.felica_format.proofs.Tests.{and_left, and_right, and_both, isEmpty-true}
+use Rattle.felica_format.proofs.Tests.{and-left, and-right, and-both, isEmpty-true}
 use Rattle.felica_format.proofs.Body.{Narrow, fits-of}
 use Rattle.felica_command.specs.Places.{selectorSize, codesSize}
-use Rattle.felica_writable.proofs.Laws.{zip_length}
+use Rattle.felica_writable.proofs.Laws.{zip-length}
 use Rattle.felica_write.specs.Size.{frontSize, shortSize}
 use Rattle.felica_write.specs.Body.{Ready}
 use Rattle.felica_write.proofs.Elements.{each-length}
 
-few-codes : (codes : Codes) (ns : List ℕ) → (bounds_of codes).greatest < 256 → codesOk codes ns ≡ true → length ns ≤ 255
+few-codes : (codes : Codes) (ns : List ℕ) → (boundsOf codes).greatest < 256 → codesOk codes ns ≡ true → length ns ≤ 255
 unfolding codesOk
 few-codes noCodes ns n ok = rw (isEmpty-true ns ok) (omega arith)
 few-codes (least to greatest) ns n ok =
-    let h = leb-true (length ns) greatest (and_left _ _ (and_right _ _ ok)) in
+    let h = leb-true (length ns) greatest (and-left _ _ (and-right _ _ ok)) in
     omega arith
 
 few-elements : (there : Bool) (es : List Element) → elementsOk there es ≡ true → (length es ≤ 255) × (eachOk es ≡ true)
 unfolding elementsOk eachOk
 few-elements false es ok = rw (isEmpty-true es ok) (omega arith, refl)
-few-elements true es ok = (leb-true (length es) 255 (and_left _ _ (and_right _ _ ok)), and_right _ _ (and_right _ _ ok))
+few-elements true es ok = (leb-true (length es) 255 (and-left _ _ (and-right _ _ ok)), and-right _ _ (and-right _ _ ok))
 
 small-lists : (ns ps ms : List ℕ) → length ps ≡ length ns → length ms ≡ length ns → eachOk (zipElements ns ps ms) ≡ true
-    → (all_below 16 ps ≡ true) × (all_below 8 ms ≡ true)
+    → (allBelow 16 ps ≡ true) × (allBelow 8 ms ≡ true)
 unfolding zipElements eachOk
 small-lists [] [] [] p m ok = (refl, refl)
 small-lists [] (x ∷ ps) ms p m ok = absurd (omega arith)
@@ -46,15 +46,15 @@ small-lists [] [] (x ∷ ms) p m ok = absurd (omega arith)
 small-lists (n ∷ ns) [] ms p m ok = absurd (omega arith)
 small-lists (n ∷ ns) (x ∷ ps) [] p m ok = absurd (omega arith)
 small-lists (n ∷ ns) (x ∷ ps) (y ∷ ms) p m ok =
-    let later = small-lists ns ps ms (omega arith) (omega arith) (and_right _ _ ok) in
-    let here = and_right (ltb n 65536) _ (and_left _ _ ok) in
-    (and_both (and_left (ltb x 16) (ltb y 8) here) later.0, and_both (and_right (ltb x 16) (ltb y 8) here) later.1)
+    let later = small-lists ns ps ms (omega arith) (omega arith) (and-right _ _ ok) in
+    let here = and-right (ltb n 65536) _ (and-left _ _ ok) in
+    (and-both (and-left (ltb x 16) (ltb y 8) here) later.0, and-both (and-right (ltb x 16) (ltb y 8) here) later.1)
 
 all-data : (there : Bool) (m : ℕ) (bs : List ℕ) → m ≤ 255 → dataOk there m bs ≡ true → (dataBytes there bs ≡ bs) × (length bs ≤ 4080)
 unfolding dataOk dataBytes
 all-data false m bs few ok = rw (isEmpty-true bs ok) (refl, omega arith)
 all-data true m bs few ok =
-    let long = eqb-true (length bs) (16 * m) (and_left _ _ ok) in
+    let long = eqb-true (length bs) (16 * m) (and-left _ _ ok) in
     (refl, omega arith)
 
 all-package : (b : Behind) (bs : List ℕ) → packageOk b bs ≡ true → packageBytes b bs ≡ bs
@@ -65,16 +65,16 @@ all-package aPackage bs ok = refl
 
 whole-challenge : (r : Ranges) (f : EndFields) → endFieldsOk r f ≡ true → length f.challenge ≡ 16
 unfolding endFieldsOk
-whole-challenge r f ok = eqb-true (length f.challenge) 16 (and_left _ _ (and_left _ _ (and_right _ _ (and_right _ _ (and_right _ _ (and_right _ _ ok))))))
+whole-challenge r f ok = eqb-true (length f.challenge) 16 (and-left _ _ (and-left _ _ (and-right _ _ (and-right _ _ (and-right _ _ (and-right _ _ ok))))))
 
 pub ready : (l : Layout) (c : Command) → Narrow l → bodyOk l c ≡ true → Ready l c
 unfolding sameLength
 ready l c n ok =
     let h = fits-of l c ok in
-    let p = eqb-true (length c.places) (length c.numbers) (and_left _ _ h.lists) in
-    let m = eqb-true (length c.modes) (length c.numbers) (and_right _ _ h.lists) in
+    let p = eqb-true (length c.places) (length c.numbers) (and-left _ _ h.lists) in
+    let m = eqb-true (length c.modes) (length c.numbers) (and-right _ _ h.lists) in
     let e = few-elements l.elements (elementsOf c) h.elements in
-    let long = zip_length c.numbers c.places c.modes in
+    let long = zip-length c.numbers c.places c.modes in
     let small = small-lists c.numbers c.places c.modes p m e.1 in
     let d = all-data l.blockData (length (elementsOf c)) c.blockData e.0 h.blockData in
     record {
@@ -95,7 +95,7 @@ ready l c n ok =
 idm-length : (there : Bool) (idm : List ℕ) → idmOk there idm ≡ true → length (idmBytes there idm) ≡ cond there 8 0
 unfolding idmOk idmBytes
 idm-length false idm ok = refl
-idm-length true idm ok = eqb-true (length idm) 8 (and_left _ _ ok)
+idm-length true idm ok = eqb-true (length idm) 8 (and-left _ _ ok)
 
 selector-length : (s : Selector) (b : ℕ) → length (selectorBytes s b) ≡ selectorSize s
 unfolding selectorBytes
@@ -118,7 +118,7 @@ unfolding elementsBytes
 elements-length false ns ps ms = refl
 elements-length true ns ps ms = omega (arith, each-length ns ps ms)
 
-ending-length : (e : Ending) (f : EndFields) → size_of e ≤ 16 → length f.challenge ≡ 16 → length (endingBytes e f) ≡ size_of e
+ending-length : (e : Ending) (f : EndFields) → sizeOf e ≤ 16 → length f.challenge ≡ 16 → length (endingBytes e f) ≡ sizeOf e
 unfolding endingBytes
 ending-length (bytes n) f few long = length-take-le n f.challenge (omega arith)
 ending-length word f few long = refl

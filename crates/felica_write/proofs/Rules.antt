@@ -13,9 +13,9 @@ use lib.Dec.{ltb}
 use borrow.Author.Tests.{ltb-true, ltb-false, lt-ltb, le-ltb}
 use Rattle.felica_format.specs.Basic.{◌and◌, Bytes}
 use Rattle.felica_format.specs.Command.{Command}
-use Rattle.felica_format.specs.Layout.{layout_of, layoutIn, has, plainRows}
+use Rattle.felica_format.specs.Layout.{layoutOf, layoutIn, has, plainRows}
 use Rattle.felica_format.specs.Read.{gives}
-use Rattle.felica_format.specs.Write.{frame_of, secureOf}
+use Rattle.felica_format.specs.Write.{frameOf, secureOf}
 use Rattle.felica_format.specs.Writable.{idmOk, selectorOk, codesOk, sameLength, bodyOk, writable, written}
 use Rattle.felica_format.specs.Demand3.{FrameGives, PayloadGives, HasFrame, HasPayload}
 use Rattle.felica_format.proofs.Demand3.{frames-are-choices, payloads-are-choices, short-frame-accepted, short-payload-accepted, other-frames-longer}
@@ -64,9 +64,9 @@ record Stored (c : Command) (b : List ℕ) (n : ℕ) (a : List ℕ) : Type 0 whe
 wrote-not : {n m : ℕ} {k : Option ℕ} → wrote n ≡ refused m k → ⊥
 wrote-not e = let z : ◌≡◌ {A = ℕ} 0 1 = cc in omega arith
 
-stored_of : (c : Command) (b : List ℕ) (n : ℕ) (a : List ℕ) → WriterAccount c b (Length n) a → Stored c b n a
+stored-of : (c : Command) (b : List ℕ) (n : ℕ) (a : List ℕ) → WriterAccount c b (Length n) a → Stored c b n a
 unfolding writing
-stored_of c b n a e = go (written c) refl e
+stored-of c b n a e = go (written c) refl e
   where
     fit : (s : List ℕ) (small : Bool) → ltb (length b) (length s) ≡ small → written c ≡ some s → outcome (wrote n) a ≡ stored small c.code s b → Stored c b n a
     fit s true q w e = absurd (wrote-not (ap (λ o. o.answer) e))
@@ -135,7 +135,7 @@ twenty-one-of c s b r a w e =
     same (t, v, small) = let is : t ≡ s = cc in subst (λ (u : List ℕ). length b < length u) is small
 
 pub frame-twenty-one : FrameTwentyOne
-frame-twenty-one c b r a has e = twenty-one-of c (frame_of [] c) b r a (short-frame-written c has) e
+frame-twenty-one c b r a has e = twenty-one-of c (frameOf [] c) b r a (short-frame-written c has) e
 
 pub payload-twenty-one : PayloadTwentyOne
 payload-twenty-one c b r a has e = twenty-one-of c (secureOf [] c) b r a (short-payload-written c has) e
@@ -162,8 +162,8 @@ frame-gives c s p small parsed given = (small, given.0, sym parsed.0 ∙ given.1
 payload-gives : (c : Command) (code : ℕ) (s : List ℕ) (p : Parsed) → Bytes s → PayloadParsed code s p → PayloadIs s p c → PayloadGives code s c
 payload-gives c code s p small parsed given = (small, given.0, sym parsed.0 ∙ given.1)
 
-frame_is : (c : Command) (s : List ℕ) (p : Parsed) → FrameParsed s p → FrameGives s c → FrameIs s p c
-frame_is c s p parsed gave = (gave.1, parsed.0 ∙ gave.2)
+frame-is : (c : Command) (s : List ℕ) (p : Parsed) → FrameParsed s p → FrameGives s c → FrameIs s p c
+frame-is c s p parsed gave = (gave.1, parsed.0 ∙ gave.2)
 
 payload-is : (c : Command) (code : ℕ) (s : List ℕ) (p : Parsed) → PayloadParsed code s p → PayloadGives code s c → PayloadIs s p c
 payload-is c code s p parsed gave = (gave.1, parsed.0 ∙ gave.2)
@@ -177,7 +177,7 @@ unwritable-unread c b r a e said s p small =
 
 pub behind-kept : BehindKept
 behind-kept c b n a e =
-    let h = stored_of c b n a e in
+    let h = stored-of c b n a e in
     let rest = drop-append_seam h.bytes (drop (length h.bytes) b) in (
       rw h.size h.room,
       ap (λ (k : ℕ). drop k a) h.size ∙ ap (drop (length h.bytes)) h.held ∙ rest ∙ ap (λ (k : ℕ). drop k b) (sym h.size),
@@ -189,13 +189,13 @@ front c b n a h = rw (h.size, h.held) (take-append_seam h.bytes (drop (length h.
 
 pub written-frame-read : WrittenFrameRead
 written-frame-read c b n a p plain e parsed =
-    let h = stored_of c b n a e in
+    let h = stored-of c b n a e in
     let back = (frame-read-back c h.bytes plain h.is).1 in
-    frame_is c (take n a) p parsed (subst (λ (s : List ℕ). FrameGives s c) (sym (front c b n a h)) back)
+    frame-is c (take n a) p parsed (subst (λ (s : List ℕ). FrameGives s c) (sym (front c b n a h)) back)
 
 pub written-payload-read : WrittenPayloadRead
 written-payload-read c b n a p secure e parsed =
-    let h = stored_of c b n a e in
+    let h = stored-of c b n a e in
     let back = payload-read-back c h.bytes secure h.is in
     payload-is c c.code (take n a) p parsed (subst (λ (s : List ℕ). PayloadGives c.code s c) (sym (front c b n a h)) back)
 
@@ -211,8 +211,8 @@ pub shortest-frame : ShortestFrame
 shortest-frame c s p b r a small parsed given room e =
     let accepted = frame-gives c s p small parsed given in
     let has : HasFrame c = (s, accepted) in
-    let whole = written-whole c (frame_of [] c) b r a (short-frame-written c has) room e in
-    (whole.0, whole.1, λ q parsed'. frame_is c (frame_of [] c) q parsed' (short-frame-accepted c has), other-frames-longer c s accepted)
+    let whole = written-whole c (frameOf [] c) b r a (short-frame-written c has) room e in
+    (whole.0, whole.1, λ q parsed'. frame-is c (frameOf [] c) q parsed' (short-frame-accepted c has), other-frames-longer c s accepted)
 
 pub shortest-payload : ShortestPayload
 shortest-payload c code s p b r a small parsed given room e =
@@ -224,7 +224,7 @@ shortest-payload c code s p b r a small parsed given room e =
 pub frames-read-are-choices : FramesReadAreChoices
 frames-read-are-choices c has s p small parsed =
     let exactly = frames-are-choices c has s in
-    (λ given. exactly.0 (frame-gives c s p small parsed given), λ choice. frame_is c s p parsed (exactly.1 choice))
+    (λ given. exactly.0 (frame-gives c s p small parsed given), λ choice. frame-is c s p parsed (exactly.1 choice))
 
 pub payloads-read-are-choices : PayloadsReadAreChoices
 payloads-read-are-choices c has code s p small parsed =
@@ -249,11 +249,11 @@ long-told : (s : List ℕ) (p : Parsed) (c : Command) (n : ℕ) → parser.meani
 long-told s p c n e = answer-long s p.idm p.challenge p.long n c p.answer e
 
 pub frame-long-told : FrameLongTold
-frame-long-told c has forms p short parsed = long-told (drop 1 (frame_of forms c)) p c _ (parsed.0 ∙ frame-long-counted c has forms short)
+frame-long-told c has forms p short parsed = long-told (drop 1 (frameOf forms c)) p c _ (parsed.0 ∙ frame-long-counted c has forms short)
 
 pub payload-long-told : PayloadLongTold
 payload-long-told c has forms tail p follows parsed = long-told (secureOf forms c ++ tail) p c _ (parsed.0 ∙ payload-long-counted c has forms tail follows)
 
 pub number-alone : NumberAlone
-unfolding writing written writable bodyOk idmOk selectorOk codesOk sameLength layout_of layoutIn has plainRows ◌and◌
+unfolding writing written writable bodyOk idmOk selectorOk codesOk sameLength layoutOf layoutIn has plainRows ◌and◌
 number-alone n b r a e = meaning-one r (refusal 22 0x04) (ap (λ o. o.answer) e)

@@ -18,7 +18,7 @@ frameRoom size room = cond (ltb 255 (2 + size)) (Refused 22) (cond (ltb room (2 
 abbrev pub payloadRoom : ℕ → ℕ → ℕ → Room
 payloadRoom size pack room = cond (ltb room (size + pack)) (Refused 21) Enough
 
-abbrev pub room_for : Class → ℕ → ℕ → ℕ → Room
-room_for Plain size pack room = frameRoom size room
-room_for Secure size pack room = payloadRoom size pack room
-room_for Unknown size pack room = Refused 22
+abbrev pub roomFor : Class → ℕ → ℕ → ℕ → Room
+roomFor Plain size pack room = frameRoom size room
+roomFor Secure size pack room = payloadRoom size pack room
+roomFor Unknown size pack room = Refused 22

@@ -6,9 +6,9 @@ use Rattle.std.proofs.Math.Option.{Option, some}
 use Rattle.felica_format.specs.declared.classes.Class.TheVariants.{Plain, Secure}
 use Rattle.felica_format.specs.Basic.{Bytes, zeros}
 use Rattle.felica_format.specs.Command.{Command, elementsOf}
-use Rattle.felica_format.specs.Layout.{class_of}
+use Rattle.felica_format.specs.Layout.{classOf}
 use Rattle.felica_format.specs.Read.{gives, readFrame, readSecure}
-use Rattle.felica_format.specs.Write.{Forms, longIn, frame_of, secureOf}
+use Rattle.felica_format.specs.Write.{Forms, longIn, frameOf, secureOf}
 use Rattle.felica_format.specs.Writable.{written}
 use Rattle.felica_format.specs.Demand3.{HasFrame, HasPayload, FrameChoice, PayloadChoice, MayFollow, Around}
 use Rattle.felica_command.specs.Meaning as parser
@@ -54,7 +54,7 @@ TwoRefusals =
 abbrev pub FrameTwentyOne : Type 0
 FrameTwentyOne =
     (c : Command) (b : List ℕ) (r : Written) (a : List ℕ) → HasFrame c → WriterAccount c b r a
-    → (meaning r ≡ refused 21 (some c.code)) ↔ (length b < length (frame_of [] c))
+    → (meaning r ≡ refused 21 (some c.code)) ↔ (length b < length (frameOf [] c))
 
 abbrev pub PayloadTwentyOne : Type 0
 PayloadTwentyOne =
@@ -86,12 +86,12 @@ BehindKept = (c : Command) (b : List ℕ) (n : ℕ) (a : List ℕ) → WriterAcc
 -- "What the writer writes, the parser reads as the command given."
 abbrev pub WrittenFrameRead : Type 0
 WrittenFrameRead =
-    (c : Command) (b : List ℕ) (n : ℕ) (a : List ℕ) (p : Parsed) → class_of c.code ≡ Plain → WriterAccount c b (Length n) a
+    (c : Command) (b : List ℕ) (n : ℕ) (a : List ℕ) (p : Parsed) → classOf c.code ≡ Plain → WriterAccount c b (Length n) a
     → FrameParsed (take n a) p → FrameIs (take n a) p c
 
 abbrev pub WrittenPayloadRead : Type 0
 WrittenPayloadRead =
-    (c : Command) (b : List ℕ) (n : ℕ) (a : List ℕ) (p : Parsed) → class_of c.code ≡ Secure → WriterAccount c b (Length n) a
+    (c : Command) (b : List ℕ) (n : ℕ) (a : List ℕ) (p : Parsed) → classOf c.code ≡ Secure → WriterAccount c b (Length n) a
     → PayloadParsed c.code (take n a) p → PayloadIs (take n a) p c
 
 -- "the all-short one is among them, every other has more bytes, and the writer writes it byte for byte": where the parser reads c in a frame s, the writer
@@ -99,10 +99,10 @@ WrittenPayloadRead =
 abbrev pub ShortestFrame : Type 0
 ShortestFrame =
     (c : Command) (s : List ℕ) (p : Parsed) (b : List ℕ) (r : Written) (a : List ℕ) → Bytes s → FrameParsed s p → FrameIs s p c
-    → length (frame_of [] c) ≤ length b → WriterAccount c b r a
-    → (r ≡ Length (length (frame_of [] c))) × (a ≡ frame_of [] c ++ drop (length (frame_of [] c)) b)
-    × ((q : Parsed) → FrameParsed (frame_of [] c) q → FrameIs (frame_of [] c) q c)
-    × (s ≢ frame_of [] c → length (frame_of [] c) < length s)
+    → length (frameOf [] c) ≤ length b → WriterAccount c b r a
+    → (r ≡ Length (length (frameOf [] c))) × (a ≡ frameOf [] c ++ drop (length (frameOf [] c)) b)
+    × ((q : Parsed) → FrameParsed (frameOf [] c) q → FrameIs (frameOf [] c) q c)
+    × (s ≢ frameOf [] c → length (frameOf [] c) < length s)
 
 abbrev pub ShortestPayload : Type 0
 ShortestPayload =
@@ -138,7 +138,7 @@ TwoPayloadsRead =
 -- "how many were long": of a choice of forms, the parser's result tells how many elements it makes long.
 abbrev pub FrameLongTold : Type 0
 FrameLongTold =
-    (c : Command) → HasFrame c → (forms : Forms) (p : Parsed) → length (frame_of forms c) ≤ 255 → FrameParsed (frame_of forms c) p
+    (c : Command) → HasFrame c → (forms : Forms) (p : Parsed) → length (frameOf forms c) ≤ 255 → FrameParsed (frameOf forms c) p
     → p.long ≡ longIn forms (elementsOf c)
 
 abbrev pub PayloadLongTold : Type 0

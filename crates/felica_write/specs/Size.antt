@@ -2,7 +2,7 @@
 -- Assumes nothing.
 use Rattle.std.specs.Prelude.{ℕ, ◌+◌, ◌≤◌, cond, List, [], ◌∷◌, ltb}
 use Rattle.felica_format.specs.Layout.{Layout}
-use Rattle.felica_format.specs.Read.{size_of}
+use Rattle.felica_format.specs.Read.{sizeOf}
 use Rattle.felica_command.specs.Places.{selectorSize, codesSize}
 
 -- of elements with these block numbers
@@ -14,7 +14,7 @@ shortSize (n ∷ ns) = cond (ltb n 256) 2 3 + shortSize ns
 abbrev pub frontSize : Layout → ℕ → ℕ → List ℕ → ℕ → ℕ
 frontSize l first second numbers data' =
     cond l.idm 8 0 + selectorSize l.selector + (codesSize l.first first + codesSize l.second second)
-    + (cond l.elements (1 + shortSize numbers) 0 + data') + size_of l.ending
+    + (cond l.elements (1 + shortSize numbers) 0 + data') + sizeOf l.ending
 
 -- so few that no sum overflows
 pub record Few (l : Layout) (first second blocks data' : ℕ) : Type 0 where
@@ -22,4 +22,4 @@ pub record Few (l : Layout) (first second blocks data' : ℕ) : Type 0 where
   pub second-few : second ≤ 255
   pub blocks-few : blocks ≤ 255
   pub data-few : data' ≤ 4080
-  pub ending-few : size_of l.ending ≤ 16
+  pub ending-few : sizeOf l.ending ≤ 16

@@ -1,8 +1,8 @@
 // The parts of a body, put into a buffer one behind the other.
 ghost use Rattle.std.specs.Prelude.{◌≡◌, true, false, [], ◌∷◌, ℕ, ◌≤◌, ◌<◌, length, take};
-ghost use Rattle.felica_format.specs.Basic.{all_below, word_bytes};
+ghost use Rattle.felica_format.specs.Basic.{allBelow, wordBytes};
 ghost use Rattle.felica_format.specs.Command.{endFields, zipElements};
-ghost use Rattle.felica_format.specs.Read.{size_of};
+ghost use Rattle.felica_format.specs.Read.{sizeOf};
 ghost use Rattle.felica_format.specs.Write.{idmBytes, selectorBytes, wordsBytes, codesBytes, elementBytes, elementsBytes, endingBytes, bodyBytes};
 ghost use Rattle.felica_command.specs.Handed.{handed};
 ghost use Rattle.felica_layout.specs.Layout.{layoutMeant, selectorMeant, codesMeant, endingMeant};
@@ -12,6 +12,9 @@ ghost use Rattle.felica_write.specs.Body.{Ready, element};
 use felica_command::fixed::Fixed;
 use felica_layout::{Codes, Ending, Layout, Selector};
 use felica_put::{put_byte, put_bytes};
+
+// The least block number that takes two bytes.
+const LEAST_LONG: u16 = 256;
 
 pub(crate) fn put_body(
     out: &mut [u8],
@@ -90,7 +93,7 @@ fn put_counted(out: &mut [u8], at: usize, list: &[u16]) -> usize
 
 // The low byte first.
 fn put_word(out: &mut [u8], at: usize, word: u16) -> usize
-    ensures { buffer out.new result ≡ put (buffer out.old at) (word_bytes word) }
+    ensures { buffer out.new result ≡ put (buffer out.old at) (wordBytes word) }
 {
     let next = put_byte(out, at, (word % 256) as u8);
     put_byte(out, next, (word / 256) as u8)
@@ -104,7 +107,7 @@ fn put_elements(
     places: &[u8],
     modes: &[u8],
 ) -> usize
-    requires { (length numbers.now ≤ 255) × (length places.now ≡ length numbers.now) × (length modes.now ≡ length numbers.now) × (all_below 16 places.now ≡ true) × (all_below 8 modes.now ≡ true) }
+    requires { (length numbers.now ≤ 255) × (length places.now ≡ length numbers.now) × (length modes.now ≡ length numbers.now) × (allBelow 16 places.now ≡ true) × (allBelow 8 modes.now ≡ true) }
     ensures { buffer out.new result ≡ put (buffer out.old at) (elementsBytes present [] (zipElements numbers.now places.now modes.now)) }
 {
     if !present {
@@ -125,7 +128,7 @@ fn put_element(out: &mut [u8], at: usize, number: u16, place: u8, mode: u8) -> u
     ensures { buffer out.new result ≡ put (buffer out.old at) (elementBytes false (element number place mode)) }
 {
     let head = 16 * mode + place;
-    if number < 256 {
+    if number < LEAST_LONG {
         let number_at = put_byte(out, at, 128 + head);
         return put_byte(out, number_at, number as u8);
     }
@@ -141,7 +144,7 @@ fn put_challenge(out: &mut [u8], at: usize, challenge: [u8; 16], count: usize) -
 }
 
 fn put_ending(out: &mut [u8], at: usize, ending: Ending, fixed: Fixed) -> usize
-    requires { size_of (endingMeant ending) ≤ 16 }
+    requires { sizeOf (endingMeant ending) ≤ 16 }
     ensures { buffer out.new result ≡ put (buffer out.old at) (endingBytes (endingMeant ending) (endFields fixed.number fixed.index fixed.option fixed.choice fixed.challenge)) }
 {
     let challenge = fixed.challenge;

@@ -2,7 +2,7 @@
 ghost use Rattle.std.specs.Prelude.{◌≡◌, [], ◌∷◌, ◌+◌, ◌≤◌};
 ghost use Rattle.felica_format.specs.declared.classes.Class.TheVariants.{Plain};
 ghost use Rattle.felica_put.specs.Put.{buffer, put};
-ghost use Rattle.felica_write.specs.Head.{room_for, frameRoom, payloadRoom, headBytes};
+ghost use Rattle.felica_write.specs.Head.{roomFor, frameRoom, payloadRoom, headBytes};
 
 use felica_format::classes::Class;
 use felica_format::constants::MAX_PACKET_LEN;
@@ -22,7 +22,7 @@ pub(crate) enum Room {
 // Whether there is room for a body of `size` bytes and a package behind it.
 pub(crate) fn room_for(class: Class, size: usize, package: usize, room: usize) -> Room
     requires { size ≤ 6000 }
-    ensures { result ≡ room_for class size «package» room }
+    ensures { result ≡ roomFor class size «package» room }
 {
     match class {
         Class::Plain => frame_room(size, room),

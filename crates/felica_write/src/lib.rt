@@ -1,5 +1,6 @@
 // The writer: the frame of a plain command and the payload of a secure one, in its shortest form, at the front of a lent buffer.
 #![tactic(auto)]
+
 ghost use Rattle.std.specs.Prelude.{◌≡◌};
 ghost use Rattle.felica_command.specs.Handed.{handed};
 ghost use Rattle.felica_write.specs.Writing.{meaning, refusal, outcome, writing};

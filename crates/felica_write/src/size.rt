@@ -1,6 +1,6 @@
 // How many bytes the parts of a body have.
 ghost use Rattle.std.specs.Prelude.{◌≡◌, cond, ◌≤◌, length, ltb};
-ghost use Rattle.felica_format.specs.Read.{size_of};
+ghost use Rattle.felica_format.specs.Read.{sizeOf};
 ghost use Rattle.felica_command.specs.Places.{selectorSize, codesSize};
 ghost use Rattle.felica_layout.specs.Layout.{layoutMeant, selectorMeant, codesMeant, endingMeant};
 ghost use Rattle.felica_write.specs.Size.{Few, shortSize, frontSize};
@@ -75,7 +75,7 @@ fn element_size(number: u16) -> usize
 }
 
 fn ending_size(ending: Ending) -> usize
-    ensures { result ≡ size_of (endingMeant ending) }
+    ensures { result ≡ sizeOf (endingMeant ending) }
 {
     match ending {
         Ending::Bytes(count) => count,

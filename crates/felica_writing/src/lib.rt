@@ -1,5 +1,6 @@
 // Answers to calls of the writer. It is lent a buffer of the size of the call, and the line is put from what stands there then.
 #![tactic(auto)]
+
 ghost use Rattle.std.specs.Prelude.{◌≡◌, ◌≤◌};
 ghost use Rattle.felica_format.specs.Basic.{zeros};
 ghost use Rattle.felica_put.specs.Put.{buffer, put};

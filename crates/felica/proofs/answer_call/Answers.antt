@@ -9,7 +9,6 @@ use Rattle.felica_calls.specs.Call.{Called, called}
 use Rattle.felica_calls.specs.declared.call.Call.{Call}
 use Rattle.felica_calls.proofs.Counts.{count-within, sizes-within}
 use Rattle.felica.specs.Answers.{AnswerTo, Answered}
-use borrow.Author.Rules.{rules}
 use Rattle.felica.proofs.answer_call.Goals as goal
 
 -- the call that was read, answered as what it is

@@ -1,7 +1,6 @@
 -- `felica::answer_line` answers the line by a line.
 -- Assumes nothing.
 use Rattle.felica.specs.Answers.{LineAnswered}
-use borrow.Author.Rules.{rules}
 use Rattle.felica.proofs.answer_line.Goals as goal
 
 pub returns : goal.returns

@@ -3,18 +3,17 @@
 use mathlib.Core.Path.{sym}
 use lib.Seq.{length-take-le}
 use Rattle.felica.proofs.Within.{line-within}
-use borrow.Author.Rules.{rules}
 use Rattle.felica_stream.proofs.Held.{waits-inside}
 use Rattle.felica.proofs.run.Goals as goal
 
 pub slice_bounds-write_all-end-then-held-eq0 : goal.slice_bounds-write_all-end-then-held-eq0
-slice_bounds-write_all-end-then-held-eq0 c = sym (length-take-le _ _ c.feed-state.ensures.1)
+slice_bounds-write_all-end-then-held-eq0 g c = sym (length-take-le _ _ c.feed-state.ensures.1)
 
 pub slice_bounds-answer_line-end-2 : goal.slice_bounds-answer_line-end-2
-slice_bounds-answer_line-end-2 c = sym (length-take-le _ _ c.feed-state.ensures.0)
+slice_bounds-answer_line-end-2 g c = sym (length-take-le _ _ c.feed-state.ensures.0)
 
 pub slice_bounds-write_all-end-2 : goal.slice_bounds-write_all-end-2
-slice_bounds-write_all-end-2 c = line-within _ _ _ _ _ _ c.answer_line-end.ensures (waits-inside _ _ _ _ c.make_room-output.ensures.0)
+slice_bounds-write_all-end-2 g c = line-within _ _ _ _ _ _ c.answer_line-end.ensures (waits-inside _ _ _ _ c.make_room-output.ensures.counts.0)
 
 pub slice_bounds-write_all-end-3 : goal.slice_bounds-write_all-end-3
-slice_bounds-write_all-end-3 c = sym (length-take-le _ _ (line-within _ _ _ _ _ _ c.answer_line-end.ensures (waits-inside _ _ _ _ c.make_room-output.ensures.0)))
+slice_bounds-write_all-end-3 g c = sym (length-take-le _ _ (line-within _ _ _ _ _ _ c.answer_line-end.ensures (waits-inside _ _ _ _ c.make_room-output.ensures.counts.0)))

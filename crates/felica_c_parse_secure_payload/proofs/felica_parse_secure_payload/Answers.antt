@@ -10,4 +10,4 @@ pub returns : goal.returns
 returns c =
     let p = c.parse_secure_payload-parsed in
     let a = c.args in
-    c.tell.ensures ∙ result-tells a.payload.now 0 (readSecure a.command-code a.payload.now) p.result (lent a.idm.now a.challenge.now a.fields.now a.parts.now) p.ensures.0 p.ensures.1
+    c.tell.ensures ∙ result-tells a.payload.now 0 (readSecure a.command_code a.payload.now) p.result (lent a.idm.now a.challenge.now a.fields.now a.parts.now) p.ensures.0 p.ensures.1

@@ -1,6 +1,5 @@
 -- `felica_write` meets its contract: what is told is told of what the writer gave.
 -- Assumes nothing.
-use borrow.Author.Rules.{rules}
 use Rattle.felica_c.proofs.Laws.{length-tells, refusal-tells}
 use Rattle.felica_c_write.proofs.felica_write.Goals as goal
 

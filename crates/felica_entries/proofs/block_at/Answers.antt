@@ -1,15 +1,14 @@
 -- `block_at` meets its contract: the elements in front are walked over.
 -- Assumes nothing.
-use borrow.Author.Rules.{rules}
 use mathlib.Core.Path.{◌≡◌, refl, sym, ap, ◌∙◌}
 use Prim.Native.Nat.{suc, ◌-◌}
 use native.Mathlib.Omega.{arith}
 use lib.ListN.{drop}
 use Rattle.felica_format.specs.Read.{formed}
 use Rattle.felica_command.specs.Types.{elementIs}
-use Rattle.felica_entries.specs.Entries.{value_of, elementBehind}
+use Rattle.felica_entries.specs.Entries.{valueOf, elementBehind}
 use Rattle.felica_cursor.specs.Steps.{elementTaken}
-use Rattle.felica_entries.proofs.OneEntry.{no-element, one-element, behind-none, behind_more, behind-refused}
+use Rattle.felica_entries.proofs.OneEntry.{no-element, one-element, behind-none, behind-more, behind-refused}
 use Rattle.felica_entries.proofs.block_at.Goals as goal
 
 pub returns-then-list-i : goal.returns-then-list-i
@@ -25,15 +24,15 @@ returns-in_default c =
     let loop = c.loop-left in
     let p : loop.left ≡ suc (loop.left - 1) = omega arith in
     let stopped = behind-refused loop.left (loop.left - 1) (drop loop.at s) _ p (c.take_element-taken.ensures.0 ∙ ap (elementTaken s) c.in_default.is) in
-    sym (one-element s a.list a.i (omega arith) ∙ ap value_of (loop.invariant ∙ stopped))
+    sym (one-element s a.list a.i (omega arith) ∙ ap valueOf (loop.invariant ∙ stopped))
 
 pub loop-left-preserved : goal.loop-left-preserved
 loop-left-preserved c =
     let s = c.args.payload.now in
     let loop = c.loop-left in
-        let p : loop.left ≡ suc (loop.left - 1) = omega arith in
+    let p : loop.left ≡ suc (loop.left - 1) = omega arith in
     loop.invariant ∙
-    behind_more loop.left (loop.left - 1) (drop loop.at s) (formed c.in-Element.field-1 (elementIs c.in-Element.field-0)) _ p (c.take_element-taken.ensures.0 ∙ ap (elementTaken s) c.in-Element.is)
+    behind-more loop.left (loop.left - 1) (drop loop.at s) (formed c.in-Element.field-1 (elementIs c.in-Element.field-0)) _ p (c.take_element-taken.ensures.0 ∙ ap (elementTaken s) c.in-Element.is)
 
 pub returns-in_default-taken : goal.returns-in_default-taken
 returns-in_default-taken c =
@@ -42,7 +41,7 @@ returns-in_default-taken c =
     let loop = c.loop-left in
     let p : loop.left ≡ 0 = omega arith in
     let here = ap (λ n. elementBehind n (drop loop.at s)) p ∙ behind-none (drop loop.at s) in
-    sym (one-element s a.list a.i (omega arith) ∙ ap value_of (loop.invariant ∙ here ∙ c.take_element-taken-2.ensures.0 ∙ ap (elementTaken s) c.in_default-taken.is))
+    sym (one-element s a.list a.i (omega arith) ∙ ap valueOf (loop.invariant ∙ here ∙ c.take_element-taken-2.ensures.0 ∙ ap (elementTaken s) c.in_default-taken.is))
 
 pub returns : goal.returns
 returns c =
@@ -51,4 +50,4 @@ returns c =
     let loop = c.loop-left in
     let p : loop.left ≡ 0 = omega arith in
     let here = ap (λ n. elementBehind n (drop loop.at s)) p ∙ behind-none (drop loop.at s) in
-    sym (one-element s a.list a.i (omega arith) ∙ ap value_of (loop.invariant ∙ here ∙ c.take_element-taken-2.ensures.0 ∙ ap (elementTaken s) c.in-Element-taken.is))
+    sym (one-element s a.list a.i (omega arith) ∙ ap valueOf (loop.invariant ∙ here ∙ c.take_element-taken-2.ensures.0 ∙ ap (elementTaken s) c.in-Element-taken.is))

@@ -1,15 +1,8 @@
 -- `block_at` meets its contract: the elements in front are walked over.
 -- Assumes nothing.
-use borrow.Author.Rules.{rules}
-use mathlib.Core.Path.{◌≡◌, refl, sym, ap, ◌∙◌}
-use Prim.Native.Nat.{suc, ◌-◌}
-use native.Mathlib.Omega.{arith}
+use mathlib.Core.Path.{◌≡◌}
 use lib.ListN.{drop}
-use Rattle.felica_format.specs.Read.{formed}
-use Rattle.felica_command.specs.Types.{elementIs}
-use Rattle.felica_entries.specs.Entries.{value_of, elementBehind}
-use Rattle.felica_cursor.specs.Steps.{elementTaken}
-use Rattle.felica_entries.proofs.OneEntry.{no-element, one-element, behind-none, behind_more, behind-refused}
+use Rattle.felica_entries.specs.Entries.{elementBehind}
 use Rattle.felica_entries.proofs.block_at.Given as goal
 
 abbrev pub invariant-loop-left : goal.invariant-loop-left

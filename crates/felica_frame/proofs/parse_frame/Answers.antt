@@ -1,6 +1,5 @@
 -- `parse_frame` meets its contract: the length byte is tested, and the rest is a payload.
 -- Assumes nothing.
-use borrow.Author.Rules.{rules}
 use mathlib.Core.Path.{◌≡◌, sym, subst}
 use mathlib.Core.List.{List}
 use mathlib.Core.Option.{none}
@@ -19,7 +18,7 @@ returns-then-frame-eq0 c =
     refusal-settled (drop 1 s) 1 1 none (readFrame s) _ c.refused_without_code.ensures (frame-empty s c.if-frame-eq0.true)
 
 pub overflow_cast-expected_len : goal.overflow_cast-expected_len
-overflow_cast-expected_len c = omega (arith, c.shared_slice_known-2-1.given 0)
+overflow_cast-expected_len c = omega (arith, c.type_inv.frame 0)
 
 pub returns-then-expected_len-frame : goal.returns-then-expected_len-frame
 returns-then-expected_len-frame c =

@@ -1,12 +1,11 @@
 -- `list_frame` meets its contract: the parser's result for the frame, with the lists of what stands behind its length byte.
 -- Assumes nothing.
-use borrow.Author.Rules.{rules}
 use mathlib.Core.Path.{sym, ap, ◌∙◌, subst}
 use mathlib.Core.List.{List}
 use Prim.Native.Nat.{ℕ}
 use lib.ListN.{drop}
 use Rattle.felica_format.specs.Read.{readFrame}
-use Rattle.felica_command.specs.Places.{places_of, Inside}
+use Rattle.felica_command.specs.Places.{placesOf, Inside}
 use Rattle.felica_lists.specs.Lists.{buffers}
 use Rattle.felica_lists.specs.Fill.{give}
 use Rattle.felica_lists.proofs.Give.{given-told}
@@ -14,7 +13,7 @@ use Rattle.felica_lists.proofs.list_frame.Goals as goal
 
 pub list_parsed-requires : goal.list_parsed-requires
 list_parsed-requires c =
-    subst (λ (s : List ℕ). Inside s (places_of c.parse_frame-parsed.result)) (sym c.payload_of-payload.ensures) c.parse_frame-parsed.ensures.3
+    subst (λ (s : List ℕ). Inside s (placesOf c.parse_frame-parsed.result)) (sym c.payload_of-payload.ensures) c.parse_frame-parsed.ensures.3
 
 pub returns : goal.returns
 returns c =

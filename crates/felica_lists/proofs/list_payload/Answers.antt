@@ -1,6 +1,5 @@
 -- `list_payload` meets its contract: the parser's result for the payload, with its lists.
 -- Assumes nothing.
-use borrow.Author.Rules.{rules}
 use Rattle.felica_format.specs.Read.{readPayload}
 use Rattle.felica_lists.specs.Lists.{buffers}
 use Rattle.felica_lists.proofs.Give.{given-told}

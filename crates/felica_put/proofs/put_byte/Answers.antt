@@ -2,7 +2,6 @@
 -- Assumes nothing.
 use borrow.Author.Tests.{lt-ltb, le-ltb}
 use Rattle.felica_put.specs.Put.{put}
-use borrow.Author.Rules.{rules}
 use Rattle.felica_put.proofs.put_byte.Goals as goal
 
 pub returns-then-at-out : goal.returns-then-at-out

@@ -1,10 +1,8 @@
 -- `keep_rest` meets its contract: a byte for each turn.
 -- Assumes nothing.
 use native.Mathlib.Omega.{arith}
-use Prim.Native.Nat.{◌+◌, ◌-◌, ◌≤◌}
-use mathlib.Core.Path.{◌≡◌, refl}
-use lib.ListN.{length, drop, length-set}
-use lib.Seq.{paste}
+use mathlib.Core.Path.{refl}
+use lib.ListN.{length-set}
 use Rattle.felica_stream.proofs.Held.{move-none, move-next, move-done, move-short}
 use Rattle.felica_stream.proofs.keep_rest.Goals as goal
 

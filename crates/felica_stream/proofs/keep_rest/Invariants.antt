@@ -1,11 +1,9 @@
 -- `keep_rest` meets its contract: a byte for each turn.
 -- Assumes nothing.
-use native.Mathlib.Omega.{arith}
 use Prim.Native.Nat.{◌+◌, ◌-◌, ◌≤◌}
-use mathlib.Core.Path.{◌≡◌, refl}
-use lib.ListN.{length, drop, length-set}
+use mathlib.Core.Path.{◌≡◌}
+use lib.ListN.{length, drop}
 use lib.Seq.{paste}
-use Rattle.felica_stream.proofs.Held.{move-none, move-next, move-done, move-short}
 use Rattle.felica_stream.proofs.keep_rest.Given as goal
 
 abbrev pub invariant-loop-i : goal.invariant-loop-i

@@ -1,19 +1,9 @@
--- `read_more` meets its contract.
+-- `read_more` meets its contract: what it puts behind the bytes held is what the reader gave.
 -- Assumes nothing.
-use borrow.Author.Rules.{rules}
-use native.Mathlib.Omega.{arith}
-use mathlib.Core.Path.{refl}
-use Rattle.felica_stream.proofs.Held.{front_kept}
+use Rattle.std.proofs.Common.{arith}
+use Rattle.felica_stream.proofs.Held.{read-behind}
 use Rattle.felica_stream.proofs.read_more.Goals as goal
 
-pub returns-then-input-held : goal.returns-then-input-held
-returns-then-input-held c = (omega arith, λ h. h, refl, λ h. (refl, refl, refl))
-
-pub returns : goal.returns
-returns c =
-    let a = c.args in (
-      omega (arith, c.count-count.ensures.0, c.if-input-held.false),
-      λ h. omega arith,
-      front_kept a.held a.input.now _ (omega (arith, c.if-input-held.false)),
-      λ h. absurd (omega (arith, h, c.if-input-held.false)),
-    )
+pub returns-clause-bytes : goal.returns-clause-bytes
+returns-clause-bytes g c =
+    read-behind _ _ c.read-got.result c.args.held c.unwrap_or.result c.args.input.now c.read-got.new.buf _ (omega arith) c.unwrap_or.ensures c.read-got.ensures.bound c.read-got.ensures.bytes

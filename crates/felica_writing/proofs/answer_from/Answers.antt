@@ -6,12 +6,11 @@ use lib.Seq.{length-take-le}
 use Rattle.felica_format.specs.Basic.{◌and◌}
 use Rattle.felica_put.specs.Put.{buffer, put}
 use Rattle.felica_put.proofs.Laws.{put-within}
-use Rattle.felica_named.specs.Names.{names, beginsWith, place_in}
+use Rattle.felica_named.specs.Names.{names, beginsWith, placeIn}
 use Rattle.felica_named.specs.Handed.{frontOf}
 use Rattle.felica_named.proofs.Fields.{command-is}
 use Rattle.felica_write.specs.Writing.{writing}
 use Rattle.felica_answers.specs.Written.{writtenLine}
-use borrow.Author.Rules.{rules}
 use Rattle.felica_writing.proofs.answer_from.Goals as goal
 
 pub slice_bounds-write-end : goal.slice_bounds-write-end
@@ -57,22 +56,22 @@ pub slice_bounds-write-end-14 : goal.slice_bounds-write-end-14
 slice_bounds-write-end-14 c = sym (length-take-le _ _ (put-within c.args.«package».now 0 _ c.bytes_named-package_end.ensures (zero-le)))
 
 pub shape_of-first : goal.shape_of-first
-shape_of-first c = c.words_named-first_end.auto.1.1.1.0
+shape_of-first c = c.words_named-first_end.auto.words
 
 pub shape_of-second : goal.shape_of-second
-shape_of-second c = c.words_named-second_end.auto.1.1.1.0
+shape_of-second c = c.words_named-second_end.auto.words
 
 pub shape_of-numbers : goal.shape_of-numbers
-shape_of-numbers c = c.words_named-numbers_end.auto.1.1.1.0
+shape_of-numbers c = c.words_named-numbers_end.auto.words
 
 pub shape_of-places : goal.shape_of-places
-shape_of-places c = c.small_named-places_end.auto.1.1.1.0
+shape_of-places c = c.small_named-places_end.auto.numbers
 
 pub shape_of-modes : goal.shape_of-modes
-shape_of-modes c = c.small_named-modes_end.auto.1.1.1.0
+shape_of-modes c = c.small_named-modes_end.auto.numbers
 
 pub returns : goal.returns
-unfolding names beginsWith place_in ◌and◌
+unfolding names beginsWith placeIn ◌and◌
 returns c = let a = c.args in
     let command = command-is a.code a.text.now a.starts.now a.first.now a.second.now a.numbers.now a.places.now a.modes.now a.«data».now a.«package».now c.fixed_named.ensures
     (ap frontOf c.words_named-first_end.ensures)

@@ -6,7 +6,6 @@ use Rattle.felica_named.specs.Handed.{commandNamed}
 use Rattle.felica_write.specs.Writing.{writing}
 use Rattle.felica_answers.specs.Written.{writtenLine}
 use Rattle.felica_writing.proofs.Lines.{take-zeros, zeros-taken}
-use borrow.Author.Rules.{rules}
 use Rattle.felica_writing.proofs.answer_named.Goals as goal
 
 pub slice_bounds-answer_from-end-8 : goal.slice_bounds-answer_from-end-8

@@ -6,7 +6,6 @@ use Rattle.felica_put.specs.Put.{buffer, put}
 use Rattle.felica_named.specs.Names.{names}
 use Rattle.felica_writing.specs.Answer.{writeAnswer}
 use Rattle.felica_writing.proofs.Lines.{whole-line, wrong-line}
-use borrow.Author.Rules.{rules}
 use Rattle.felica_writing.proofs.answer_write.Goals as goal
 
 pub returns-then-size-gt-MAX_ROOM : goal.returns-then-size-gt-MAX_ROOM

@@ -1,6 +1,5 @@
 -- `list_input` meets its contract.
 -- Assumes nothing.
-use borrow.Author.Rules.{rules}
 use native.Mathlib.Omega.{arith}
 use Prim.Native.Nat.{◌-◌, ◌≤◌}
 use mathlib.Core.Path.{sym, ap, ◌∙◌}
@@ -10,19 +9,19 @@ use Rattle.list_log.proofs.Held.{rest-moved}
 use Rattle.list_log.proofs.list_input.Goals as goal
 
 pub slice_bounds-list_held-end-2 : goal.slice_bounds-list_held-end-2
-slice_bounds-list_held-end-2 c = sym (length-take-le _ _ c.requires.0)
+slice_bounds-list_held-end-2 g c = sym (length-take-le _ _ c.requires.0)
 
 pub overflow_sub-result : goal.overflow_sub-result
-overflow_sub-result c =
+overflow_sub-result g c =
     let a = c.args in
     omega (arith, c.list_held-listed.ensures.0, length-take-le a.held a.input.now c.requires.0)
 
 pub returns : goal.returns
-returns c =
+returns g c =
     let a = c.args in
     let listed = c.list_held-listed.ensures in
     let inside : c.list_held-listed.result.used ≤ a.held = omega (arith, listed.0, length-take-le a.held a.input.now c.requires.0) in (
-      omega (arith, c.requires.0, c.keep_rest.auto.0),
+      omega (arith, c.requires.0, c.keep_rest.auto.input),
       listed.1,
       listed.2,
       λ e. (

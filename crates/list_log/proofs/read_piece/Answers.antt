@@ -1,10 +1,14 @@
 -- `read_piece` meets its contract.
 -- Assumes nothing.
-use borrow.Author.Rules.{rules}
 use native.Mathlib.Omega.{arith}
 use Rattle.list_log.proofs.read_piece.Goals as goal
 
 pub returns : goal.returns
-returns c =
+returns g c =
     let read = c.read_more.ensures in
-    (read.0, read.1 (omega arith), read.2)
+    record {
+      bytes = read.bytes;
+      failed = read.failed;
+      end = λ whole none. read.end whole none (omega arith);
+      counts = (read.counts.0, read.counts.1 (omega arith), read.counts.2);
+    }

@@ -1,6 +1,5 @@
 -- `felica::lists::list` lists what the bytes are.
 -- Assumes nothing.
-use borrow.Author.Rules.{rules}
 use Rattle.felica.proofs.lists.list.Goals as goal
 
 pub returns-in-Frame : goal.returns-in-Frame

@@ -1,6 +1,5 @@
 -- `felica::parse::parse` parses what the bytes are.
 -- Assumes nothing.
-use borrow.Author.Rules.{rules}
 use Rattle.felica.proofs.parse.parse.Goals as goal
 
 pub returns-in-Frame : goal.returns-in-Frame

@@ -1,6 +1,5 @@
 -- `felica::parse::payload_in` gives what the places of a result count from.
 -- Assumes nothing.
-use borrow.Author.Rules.{rules}
 use Rattle.felica.proofs.parse.payload_in.Goals as goal
 
 pub returns-in-Frame : goal.returns-in-Frame

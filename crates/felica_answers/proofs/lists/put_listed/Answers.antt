@@ -3,7 +3,6 @@
 use mathlib.Core.Path.{ap, ◌∙◌}
 use Rattle.felica_put.specs.Put.{put}
 use Rattle.felica_answers.proofs.Listed.{command-line, refused-line}
-use borrow.Author.Rules.{rules}
 use Rattle.felica_answers.proofs.lists.put_listed.Goals as goal
 
 pub returns-in-Command : goal.returns-in-Command

@@ -1,12 +1,10 @@
 -- `felica_calls::bytes::all_digits` meets its contract: what is left to look at decides.
 -- Assumes nothing.
-use borrow.Author.Rules.{rules}
 use native.Mathlib.Omega.{arith}
-use Prim.Native.Nat.{◌-◌, ◌≤◌}
-use mathlib.Core.Path.{◌≡◌, refl, sym, ap, ◌∙◌}
-use lib.ListN.{length, drop, drop_of_length-le}
+use mathlib.Core.Path.{refl, sym, ap, ◌∙◌}
+use lib.ListN.{drop_of_length-le}
 use Rattle.felica_calls.specs.Bytes.{allDigits}
-use Rattle.felica_calls.proofs.Reading.{no_digit, a-digit}
+use Rattle.felica_calls.proofs.Reading.{no-digit, a-digit}
 use Rattle.felica_calls.proofs.bytes.all_digits.Goals as goal
 
 pub loop-i-init : goal.loop-i-init
@@ -16,7 +14,7 @@ pub bounds-field-i : goal.bounds-field-i
 bounds-field-i c = omega arith
 
 pub returns-in-NoDigit : goal.returns-in-NoDigit
-returns-in-NoDigit c = sym (no_digit _ _ c.loop-i-test.true (sym c.digit_value-digit.ensures ∙ c.in-NoDigit.is)) ∙ c.loop-i.invariant.1
+returns-in-NoDigit c = sym (no-digit _ _ c.loop-i-test.true (sym c.digit_value-digit.ensures ∙ c.in-NoDigit.is)) ∙ c.loop-i.invariant.1
 
 pub overflow_add-i : goal.overflow_add-i
 overflow_add-i c = omega arith

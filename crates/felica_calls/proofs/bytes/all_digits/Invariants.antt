@@ -1,12 +1,9 @@
 -- `felica_calls::bytes::all_digits` meets its contract: what is left to look at decides.
 -- Assumes nothing.
-use borrow.Author.Rules.{rules}
-use native.Mathlib.Omega.{arith}
 use Prim.Native.Nat.{◌-◌, ◌≤◌}
-use mathlib.Core.Path.{◌≡◌, refl, sym, ap, ◌∙◌}
-use lib.ListN.{length, drop, drop_of_length-le}
+use mathlib.Core.Path.{◌≡◌}
+use lib.ListN.{length, drop}
 use Rattle.felica_calls.specs.Bytes.{allDigits}
-use Rattle.felica_calls.proofs.Reading.{no_digit, a-digit}
 use Rattle.felica_calls.proofs.bytes.all_digits.Given as goal
 
 abbrev pub invariant-loop-i : goal.invariant-loop-i

@@ -1,14 +1,10 @@
 -- `felica_calls::bytes::decode` meets its contract: byte after byte.
 -- Assumes nothing.
-use borrow.Author.Rules.{rules}
 use native.Mathlib.Omega.{arith}
-use Prim.Native.Nat.{◌*◌, ◌-◌, ◌≤◌}
-use mathlib.Core.Path.{◌≡◌, refl, sym, ap, ◌∙◌}
-use lib.ListN.{length, drop}
-use Rattle.felica_put.specs.Put.{buffer, put}
-use Rattle.felica_calls.specs.Bytes.{bytes_of}
-use Rattle.felica_put.proofs.Laws.{put_rest, put-none}
-use Rattle.felica_calls.proofs.Reading.{bytes_next, bytes-end}
+use mathlib.Core.Path.{refl, sym, ap, ◌∙◌}
+use Rattle.felica_put.specs.Put.{put}
+use Rattle.felica_put.proofs.Laws.{put-rest, put-none}
+use Rattle.felica_calls.proofs.Reading.{bytes-next, bytes-end}
 use Rattle.felica_calls.proofs.bytes.decode.Goals as goal
 
 pub loop-i-init : goal.loop-i-init
@@ -38,8 +34,8 @@ loop-i-smaller c = omega arith
 pub loop-i-preserved : goal.loop-i-preserved
 loop-i-preserved c = let l = c.loop-i in
     let w = c.put_byte-next in
-    let e = bytes_next c.args.field.now l.i (omega arith) in
-    (omega arith, w.auto.0 ∙ l.invariant.1, put_rest _ _ _ (ap (put _) (sym e) ∙ l.invariant.2) (rw c.byte_of.ensures at w.ensures))
+    let e = bytes-next c.args.field.now l.i (omega arith) in
+    (omega arith, w.auto.out ∙ l.invariant.1, put-rest _ _ _ (ap (put _) (sym e) ∙ l.invariant.2) (rw c.byte_of.ensures at w.ensures))
 
 pub shape_of-bytes : goal.shape_of-bytes
 shape_of-bytes c = c.loop-i.invariant.1

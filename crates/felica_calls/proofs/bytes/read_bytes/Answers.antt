@@ -1,13 +1,12 @@
 -- `felica_calls::bytes::read_bytes` meets its contract.
 -- Assumes nothing.
-use borrow.Author.Tests.{lt-ltb, le-ltb, eq-eqb, ne_eqb, not-true, not-false}
+use borrow.Author.Tests.{lt-ltb, le-ltb, eq-eqb, ne_eqb}
 use native.Mathlib.Omega.{arith}
 use Prim.Native.Nat.{◌%◌}
 use mathlib.Core.Path.{◌≡◌, sym, ap, ◌∙◌}
 use lib.ListN.{length}
 use Rattle.felica_calls.specs.Bytes.{decoded, readBytes}
 use Rattle.felica_calls.proofs.Reading.{decoded-front}
-use borrow.Author.Rules.{rules}
 use Rattle.felica_calls.proofs.bytes.read_bytes.Goals as goal
 
 pub returns-then-field-eq0 : goal.returns-then-field-eq0
@@ -20,12 +19,12 @@ returns-then-is_byte c = rw (ne_eqb _ _ c.if-field-eq0.false, sym c.is_byte.ensu
 
 pub returns-then-not-all_digits : goal.returns-then-not-all_digits
 unfolding readBytes
-returns-then-not-all_digits c = rw (ne_eqb _ _ c.if-field-eq0.false, sym c.is_byte.ensures ∙ c.if-is_byte.false, sym c.all_digits.ensures ∙ not-true _ c.if-not-all_digits.true)
+returns-then-not-all_digits c = rw (ne_eqb _ _ c.if-field-eq0.false, sym c.is_byte.ensures ∙ c.if-is_byte.false, sym c.all_digits.ensures ∙ c.if-not-all_digits.true)
 
 pub returns-then-field-eq1 : goal.returns-then-field-eq1
 unfolding readBytes
 returns-then-field-eq1 c = let odd : length c.args.field.now % 2 ≡ 1 = omega arith in
-    rw (ne_eqb _ _ c.if-field-eq0.false, sym c.is_byte.ensures ∙ c.if-is_byte.false, sym c.all_digits.ensures ∙ not-false _ c.if-not-all_digits.false, eq-eqb _ _ odd)
+    rw (ne_eqb _ _ c.if-field-eq0.false, sym c.is_byte.ensures ∙ c.if-is_byte.false, sym c.all_digits.ensures ∙ c.if-not-all_digits.false, eq-eqb _ _ odd)
 
 pub returns-then-bytes-count : goal.returns-then-bytes-count
 unfolding readBytes
@@ -33,7 +32,7 @@ returns-then-bytes-count c = let even : (length c.args.field.now % 2 ≡ 1 → �
     rw (
       ne_eqb _ _ c.if-field-eq0.false,
       sym c.is_byte.ensures ∙ c.if-is_byte.false,
-      sym c.all_digits.ensures ∙ not-false _ c.if-not-all_digits.false,
+      sym c.all_digits.ensures ∙ c.if-not-all_digits.false,
       ne_eqb _ _ even,
       lt-ltb _ _ c.if-bytes-count.true,
     )
@@ -44,7 +43,7 @@ returns c = let even : (length c.args.field.now % 2 ≡ 1 → ⊥) = c.if-field-
     rw (
       ne_eqb _ _ c.if-field-eq0.false,
       sym c.is_byte.ensures ∙ c.if-is_byte.false,
-      sym c.all_digits.ensures ∙ not-false _ c.if-not-all_digits.false,
+      sym c.all_digits.ensures ∙ c.if-not-all_digits.false,
       ne_eqb _ _ even,
       le-ltb _ _ c.if-bytes-count.false,
     )

@@ -2,7 +2,6 @@
 -- Assumes nothing.
 use mathlib.Core.Path.{sym, ◌∙◌}
 use Rattle.felica_calls.proofs.Reading.{last-extra, last-field}
-use borrow.Author.Rules.{rules}
 use Rattle.felica_calls.proofs.bytes.read_last.Goals as goal
 
 pub returns-then-find-field : goal.returns-then-find-field

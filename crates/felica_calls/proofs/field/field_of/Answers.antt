@@ -4,7 +4,6 @@ use native.Mathlib.Omega.{arith}
 use mathlib.Core.Path.{sym}
 use lib.Seq.{length-take-le}
 use Rattle.felica_calls.proofs.Reading.{take-before, before-within}
-use borrow.Author.Rules.{rules}
 use Rattle.felica_calls.proofs.field.field_of.Goals as goal
 
 pub slice_bounds-result-end : goal.slice_bounds-result-end

@@ -1,10 +1,7 @@
 -- `felica_calls::field::is_name` meets its contract: what is left of the name decides.
 -- Assumes nothing.
 use native.Mathlib.Omega.{arith}
-use Prim.Native.Nat.{◌-◌, ◌≤◌}
-use mathlib.Core.Path.{◌≡◌, refl, sym, ◌∙◌}
-use lib.ListN.{length, drop}
-use Rattle.felica_calls.specs.Field.{isName}
+use mathlib.Core.Path.{refl, sym, ◌∙◌}
 use Rattle.felica_calls.proofs.Reading.{name-size, name-other, name-more, name-all}
 use Rattle.felica_calls.proofs.field.is_name.Goals as goal
 

@@ -1,11 +1,10 @@
 -- `felica_calls::number::all_decimal` meets its contract: what is left to look at decides.
 -- Assumes nothing.
 use native.Mathlib.Omega.{arith}
-use Prim.Native.Nat.{◌-◌, ◌≤◌}
-use mathlib.Core.Path.{◌≡◌, refl, sym, ap, ◌∙◌}
-use lib.ListN.{length, drop, drop_of_length-le}
+use mathlib.Core.Path.{refl, sym, ap, ◌∙◌}
+use lib.ListN.{drop_of_length-le}
 use Rattle.felica_calls.specs.Number.{allDecimal}
-use Rattle.felica_calls.proofs.Decimal.{below-digits, above-digits, decimal_digit}
+use Rattle.felica_calls.proofs.Decimal.{below-digits, above-digits, decimal-digit}
 use Rattle.felica_calls.proofs.number.all_decimal.Goals as goal
 
 pub loop-i-init : goal.loop-i-init
@@ -27,7 +26,7 @@ pub loop-i-smaller : goal.loop-i-smaller
 loop-i-smaller c = omega arith
 
 pub loop-i-preserved : goal.loop-i-preserved
-loop-i-preserved c = (omega arith, sym (decimal_digit _ _ c.loop-i-test.true c.if-digit-lt48.false c.if-digit-gt57.false) ∙ c.loop-i.invariant.1)
+loop-i-preserved c = (omega arith, sym (decimal-digit _ _ c.loop-i-test.true c.if-digit-lt48.false c.if-digit-gt57.false) ∙ c.loop-i.invariant.1)
 
 pub returns : goal.returns
 unfolding allDecimal

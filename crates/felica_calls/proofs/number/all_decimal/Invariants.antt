@@ -1,11 +1,9 @@
 -- `felica_calls::number::all_decimal` meets its contract: what is left to look at decides.
 -- Assumes nothing.
-use native.Mathlib.Omega.{arith}
 use Prim.Native.Nat.{◌-◌, ◌≤◌}
-use mathlib.Core.Path.{◌≡◌, refl, sym, ap, ◌∙◌}
-use lib.ListN.{length, drop, drop_of_length-le}
+use mathlib.Core.Path.{◌≡◌}
+use lib.ListN.{length, drop}
 use Rattle.felica_calls.specs.Number.{allDecimal}
-use Rattle.felica_calls.proofs.Decimal.{below-digits, above-digits, decimal_digit}
 use Rattle.felica_calls.proofs.number.all_decimal.Given as goal
 
 abbrev pub invariant-loop-i : goal.invariant-loop-i

@@ -1,15 +1,10 @@
 -- `felica_calls::number::read_number` meets its contract: the digits read so far, and those left, come to the number.
 -- Assumes nothing.
-use borrow.Author.Rules.{rules}
-use native.Mathlib.Omega.{arith}
 use Prim.Native.Nat.{◌-◌, ◌≤◌}
-use mathlib.Core.Path.{◌≡◌, refl, sym, ◌∙◌}
+use mathlib.Core.Path.{◌≡◌}
 use mathlib.Core.Bool.{true}
 use lib.ListN.{length, drop}
-use borrow.Author.Tests.{not-true, not-false}
 use Rattle.felica_calls.specs.Number.{allDecimal, decimalFrom}
-use Rattle.felica_calls.proofs.Decimal.{digit-is, decimal-next, decimal-end}
-use Rattle.felica_calls.proofs.Decimal.{number-missing, number-none, number_past, number_is}
 use Rattle.felica_calls.proofs.number.read_number.Given as goal
 
 abbrev pub invariant-loop-i : goal.invariant-loop-i

@@ -4,7 +4,6 @@ use borrow.Author.Tests.{eq-eqb, ne_eqb}
 use mathlib.Core.Path.{sym, ◌∙◌}
 use Rattle.felica_calls.specs.Sizes.{readSizes}
 use Rattle.felica_calls.proofs.Lending.{size-next, size-wrong}
-use borrow.Author.Rules.{rules}
 use Rattle.felica_calls.proofs.sizes.read_sizes.Goals as goal
 
 pub returns-in_default : goal.returns-in_default

@@ -2,7 +2,6 @@
 -- Assumes nothing.
 use mathlib.Core.Path.{sym, ◌∙◌}
 use Rattle.felica_calls.proofs.Reading.{code-missing, code-size, code-two}
-use borrow.Author.Rules.{rules}
 use Rattle.felica_calls.proofs.source.read_code.Goals as goal
 
 pub returns-then-field-eq0 : goal.returns-then-field-eq0

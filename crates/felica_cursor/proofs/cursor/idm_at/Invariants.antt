@@ -1,14 +1,10 @@
 -- `idm_at` meets its contract: the bytes passed are in place, zeros behind them.
 -- Assumes nothing.
-use borrow.Author.Rules.{rules}
-use mathlib.Core.Path.{◌≡◌, refl}
+use mathlib.Core.Path.{◌≡◌}
 use Prim.Native.Nat.{◌≤◌, ◌-◌}
-use native.Mathlib.Omega.{arith}
-use mathlib.Core.List.{append-nil}
 use lib.ListN.{drop}
 use lib.Seq.{paste}
 use Rattle.felica_format.specs.Basic.{zeros}
-use Rattle.felica_cursor.proofs.Laws.{paste_more}
 use Rattle.felica_cursor.proofs.cursor.idm_at.Given as goal
 
 abbrev pub invariant-loop-i : goal.invariant-loop-i

@@ -1,11 +1,9 @@
 -- `all_zero` meets its contract: those passed are 00.
 -- Assumes nothing.
-use borrow.Author.Rules.{rules}
 use mathlib.Core.Path.{◌≡◌, sym, ◌∙◌}
-use Prim.Native.Nat.{◌≤◌, ◌+◌, ◌-◌}
+use Prim.Native.Nat.{◌-◌}
 use native.Mathlib.Omega.{arith}
-use Rattle.felica_format.specs.Read.{zeroAt}
-use Rattle.felica_cursor.proofs.Laws.{zero-start, zero_more, zero-not}
+use Rattle.felica_cursor.proofs.Laws.{zero-start, zero-more, zero-not}
 use Rattle.felica_cursor.proofs.endings.all_zero.Goals as goal
 
 pub loop-i-init : goal.loop-i-init
@@ -19,7 +17,7 @@ returns-then-payload-at-ne0 c =
 pub loop-i-preserved : goal.loop-i-preserved
 loop-i-preserved c =
     let a = c.args in
-    (omega arith, c.loop-i.invariant.1 ∙ zero_more a.payload.now a.at a.count c.loop-i.i (omega arith) c.if-payload-at-ne0.false)
+    (omega arith, c.loop-i.invariant.1 ∙ zero-more a.payload.now a.at a.count c.loop-i.i (omega arith) c.if-payload-at-ne0.false)
 
 pub returns : goal.returns
 returns c = let e : c.args.count - c.loop-i.i ≡ 0 = omega arith in rw (c.loop-i.invariant.1, e)

@@ -1,11 +1,8 @@
 -- `all_zero` meets its contract: those passed are 00.
 -- Assumes nothing.
-use borrow.Author.Rules.{rules}
-use mathlib.Core.Path.{◌≡◌, sym, ◌∙◌}
+use mathlib.Core.Path.{◌≡◌}
 use Prim.Native.Nat.{◌≤◌, ◌+◌, ◌-◌}
-use native.Mathlib.Omega.{arith}
 use Rattle.felica_format.specs.Read.{zeroAt}
-use Rattle.felica_cursor.proofs.Laws.{zero-start, zero_more, zero-not}
 use Rattle.felica_cursor.proofs.endings.all_zero.Given as goal
 
 abbrev pub invariant-loop-i : goal.invariant-loop-i

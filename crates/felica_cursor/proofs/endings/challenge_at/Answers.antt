@@ -2,13 +2,10 @@
 -- Assumes nothing.
 use borrow.Author.Rules.{rules}
 use mathlib.Core.Path.{◌≡◌, refl}
-use Prim.Native.Nat.{◌≤◌, ◌-◌}
 use native.Mathlib.Nat.{zero-add}
 use native.Mathlib.Omega.{arith}
-use lib.ListN.{drop}
-use lib.Seq.{paste}
 use Rattle.felica_format.specs.Basic.{zeros}
-use Rattle.felica_cursor.proofs.Laws.{paste_more, drop-zeros}
+use Rattle.felica_cursor.proofs.Laws.{paste-more, drop-zeros}
 use Rattle.felica_cursor.proofs.endings.challenge_at.Goals as goal
 
 pub loop-i-init : goal.loop-i-init
@@ -19,7 +16,7 @@ loop-i-preserved c =
     let s = c.args.payload.now in
     let at = c.args.at in
     let i = c.loop-i.i in
-    (search rules, paste_more (zeros 16) s at c.loop-i.challenge i (omega arith) (omega arith) c.loop-i.invariant.1)
+    (search rules, paste-more (zeros 16) s at c.loop-i.challenge i (omega arith) (omega arith) c.loop-i.invariant.1)
 
 pub returns : goal.returns
 returns c =

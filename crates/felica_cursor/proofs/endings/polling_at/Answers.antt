@@ -1,13 +1,11 @@
 -- `polling_at` meets its contract.
 -- Assumes nothing.
-use borrow.Author.Rules.{rules}
 use mathlib.Core.Path.{◌≡◌, refl, sym, ap, ◌∙◌}
 use mathlib.Core.Bool.{true, false, not}
 use Prim.Native.Nat.{◌+◌}
 use lib.Dec.{ltb}
 use lib.ListN.{get_or}
 use lib.Seq.{get_or-drop}
-use borrow.Author.Tests.{not-false}
 use Rattle.felica_format.specs.Basic.{refuseIf}
 use Rattle.felica_format.specs.Read.{readValues}
 use Rattle.felica_cursor.proofs.Laws.{ltb-not-leb, polling-values}
@@ -17,23 +15,19 @@ pub returns-then-not-is_polling_request_code : goal.returns-then-not-is_polling_
 unfolding readValues refuseIf
 returns-then-not-is_polling_request_code c =
     let b = get_or c.args.payload.now (c.args.at + 2) 0 in
-    let test : not c.is_polling_request_code.result ≡ true = c.if-not-is_polling_request_code.true in
-    let request : ltb 2 b ≡ true = ltb-not-leb b 2 ∙ ap not (sym c.is_polling_request_code.ensures) ∙ test in
+    let request : ltb 2 b ≡ true = ltb-not-leb b 2 ∙ ap not (sym c.is_polling_request_code.ensures ∙ c.if-not-is_polling_request_code.true) in
     (simp (get_or-drop, request), tt)
 
 pub returns-then-not-is_polling_time_slot : goal.returns-then-not-is_polling_time_slot
 unfolding readValues refuseIf
 returns-then-not-is_polling_time_slot c =
     let b = get_or c.args.payload.now (c.args.at + 2) 0 in
-    let test : not c.is_polling_request_code.result ≡ false = c.if-not-is_polling_request_code.false in
-    let request : ltb 2 b ≡ false = ltb-not-leb b 2 ∙ ap not (sym c.is_polling_request_code.ensures) ∙ test in
+    let request : ltb 2 b ≡ false = ltb-not-leb b 2 ∙ ap not (sym c.is_polling_request_code.ensures ∙ c.if-not-is_polling_request_code.false) in
     (simp (get_or-drop, request, sym c.is_polling_time_slot.ensures, c.if-not-is_polling_time_slot.true), tt)
 
 pub returns : goal.returns
 returns c =
     let b = get_or c.args.payload.now (c.args.at + 2) 0 in
-    let test : not c.is_polling_request_code.result ≡ false = c.if-not-is_polling_request_code.false in
-    let request : ltb 2 b ≡ false = ltb-not-leb b 2 ∙ ap not (sym c.is_polling_request_code.ensures) ∙ test in
-    let slot-test : not c.is_polling_time_slot.result ≡ false = c.if-not-is_polling_time_slot.false in
-    let slots = sym c.is_polling_time_slot.ensures ∙ not-false _ slot-test in
+    let request : ltb 2 b ≡ false = ltb-not-leb b 2 ∙ ap not (sym c.is_polling_request_code.ensures ∙ c.if-not-is_polling_request_code.false) in
+    let slots = sym c.is_polling_time_slot.ensures ∙ c.if-not-is_polling_time_slot.false in
     (rw c.word_of-system_code.ensures (polling-values c.args.payload.now c.args.at request slots), refl)

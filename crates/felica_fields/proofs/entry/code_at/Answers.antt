@@ -1,7 +1,6 @@
 -- `felica_fields::entry::code_at` meets its contract.
 -- Assumes nothing.
 use Rattle.felica_fields.proofs.Entries.{code-none, code-cut, code-whole}
-use borrow.Author.Rules.{rules}
 use Rattle.felica_fields.proofs.entry.code_at.Goals as goal
 
 pub returns-then-payload-at : goal.returns-then-payload-at

@@ -4,9 +4,8 @@ use mathlib.Core.Path.{sym, ap, ◌∙◌}
 use Rattle.felica_format.specs.Read.{readElement}
 use Rattle.felica_put.specs.Put.{put}
 use Rattle.felica_fields.specs.Entries.{formedText}
-use Rattle.felica_put.proofs.Laws.{put_then}
+use Rattle.felica_put.proofs.Laws.{put-then}
 use Rattle.felica_fields.proofs.Entries.{list-next, list-end, list-none}
-use borrow.Author.Rules.{rules}
 use Rattle.felica_cursor.specs.Steps.{elementTaken}
 use Rattle.felica_fields.proofs.list.put_blocks.Goals as goal
 
@@ -18,4 +17,4 @@ returns-in_default c = c.put_byte-in_default.ensures ∙ ap (put _) (sym (list-e
 
 pub returns : goal.returns
 returns c = let e = list-next readElement formedText _ _ c.if-count-eq0.false (c.take_element-first.ensures.0 ∙ ap (elementTaken _) c.in-Element.is) in
-    put_then _ _ _ c.put_block-next.ensures c.put_more_blocks.ensures ∙ ap (put _) (sym e)
+    put-then _ _ _ c.put_block-next.ensures c.put_more_blocks.ensures ∙ ap (put _) (sym e)

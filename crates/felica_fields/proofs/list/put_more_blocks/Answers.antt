@@ -1,14 +1,11 @@
 -- `felica_fields::list::put_more_blocks` meets its contract.
 -- Assumes nothing.
-use borrow.Author.Rules.{rules}
 use native.Mathlib.Omega.{arith}
-use mathlib.Core.Path.{◌≡◌, refl, sym, ap, ◌∙◌}
-use lib.ListN.{length, drop}
+use mathlib.Core.Path.{refl, sym, ap, ◌∙◌}
 use Rattle.felica_format.specs.Read.{readElement}
-use Rattle.felica_text.specs.Text.{behindCommas}
-use Rattle.felica_put.specs.Put.{buffer, put}
-use Rattle.felica_fields.specs.Entries.{formedText, entriesOf}
-use Rattle.felica_put.proofs.Laws.{put_then, put_rest, put-none}
+use Rattle.felica_put.specs.Put.{put}
+use Rattle.felica_fields.specs.Entries.{formedText}
+use Rattle.felica_put.proofs.Laws.{put-then, put-rest, put-none}
 use Rattle.felica_fields.proofs.Entries.{more-next, more-end, more-none}
 use Rattle.felica_cursor.specs.Steps.{elementTaken}
 use Rattle.felica_fields.proofs.list.put_more_blocks.Goals as goal
@@ -33,7 +30,7 @@ loop-left-preserved c = let l = c.loop-left in
     let w = c.put_byte-next in
     let x = c.put_block-next in
     let e = more-next readElement formedText _ _ c.loop-left-test.true (c.take_element-taken.ensures.0 ∙ ap (elementTaken _) c.in-Element.is) in
-    (x.auto.0 ∙ w.auto.0 ∙ l.invariant.0, put_rest _ _ _ (ap (put _) (sym e) ∙ l.invariant.1) (put_then _ _ _ w.ensures x.ensures))
+    (x.auto.out ∙ w.auto.out ∙ l.invariant.0, put-rest _ _ _ (ap (put _) (sym e) ∙ l.invariant.1) (put-then _ _ _ w.ensures x.ensures))
 
 pub shape_of-out : goal.shape_of-out
 shape_of-out c = c.loop-left.invariant.0

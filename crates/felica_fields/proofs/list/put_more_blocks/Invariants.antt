@@ -1,16 +1,11 @@
 -- `felica_fields::list::put_more_blocks` meets its contract.
 -- Assumes nothing.
-use borrow.Author.Rules.{rules}
-use native.Mathlib.Omega.{arith}
-use mathlib.Core.Path.{◌≡◌, refl, sym, ap, ◌∙◌}
+use mathlib.Core.Path.{◌≡◌}
 use lib.ListN.{length, drop}
 use Rattle.felica_format.specs.Read.{readElement}
 use Rattle.felica_text.specs.Text.{behindCommas}
 use Rattle.felica_put.specs.Put.{buffer, put}
 use Rattle.felica_fields.specs.Entries.{formedText, entriesOf}
-use Rattle.felica_put.proofs.Laws.{put_then, put_rest, put-none}
-use Rattle.felica_fields.proofs.Entries.{more-next, more-end, more-none}
-use Rattle.felica_cursor.specs.Steps.{elementTaken}
 use Rattle.felica_fields.proofs.list.put_more_blocks.Given as goal
 
 abbrev pub invariant-loop-left : goal.invariant-loop-left

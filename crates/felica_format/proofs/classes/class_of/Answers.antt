@@ -1,6 +1,7 @@
 -- `felica_format::classes::class_of` meets its contract: the table is the one that the rule makes.
 -- Assumes nothing.
 use borrow.Author.Rules.{rules}
+use native.Mathlib.Omega.{arith}
 use mathlib.Core.Path.{sym, ap, ◌∙◌}
 use lib.ListN.{get_or}
 use Rattle.felica_format.proofs.ClassTable.{byteClass, byteClass-other, classes, class-at}
@@ -17,5 +18,5 @@ returns-in-2 c = sym (ap byteClass c.in-2.is) ∙ class-at c.args.code (search r
 pub returns-in_default : goal.returns-in_default
 unfolding classes
 returns-in_default c =
-    sym (byteClass-other (get_or classes c.args.code 0) c.in_default.in_default-own.rest.0.1 c.in_default.in_default-own.rest.1)
+    sym (byteClass-other (get_or classes c.args.code 0) (λ e. absurd (omega (arith, e))) (λ e. absurd (omega (arith, e))))
     ∙ class-at c.args.code (search rules)

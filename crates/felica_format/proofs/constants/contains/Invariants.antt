@@ -1,12 +1,9 @@
 -- `felica_format::constants::contains` meets its contract: what is left of the table has the value exactly where the table has it.
 -- Assumes nothing.
-use borrow.Author.Rules.{rules}
 use Prim.Native.Nat.{◌≤◌, ◌-◌}
-use native.Mathlib.Omega.{arith}
-use mathlib.Core.Path.{◌≡◌, refl, sym, ap, ◌∙◌}
-use lib.ListN.{length, drop, drop_of_length-le}
+use mathlib.Core.Path.{◌≡◌}
+use lib.ListN.{length, drop}
 use Rattle.felica_format.specs.Basic.{isOneOf}
-use Rattle.felica_format.proofs.Members.{is-here, is_later}
 use Rattle.felica_format.proofs.constants.contains.Given as goal
 
 abbrev pub invariant-loop-i : goal.invariant-loop-i

@@ -1,7 +1,6 @@
 -- `felica_format::constants::is_polling_time_slot` meets its contract: the formula, test by test.
 -- Assumes nothing.
 use native.Mathlib.Omega.{arith}
-use borrow.Author.Rules.{rules}
 use borrow.Author.Tests.{lt-ltb, le-ltb}
 use Rattle.felica_format.specs.Basic.{◌and◌}
 use Rattle.felica_format.specs.Read.{isTimeSlots}

@@ -1,9 +1,8 @@
 -- `put_accepted` meets its contract.
 -- Assumes nothing.
-use borrow.Author.Rules.{rules}
 use native.Mathlib.Omega.{arith}
 use mathlib.Core.Path.{sym, ap, ◌∙◌}
-use Rattle.felica_put.proofs.Laws.{put_then, put_same}
+use Rattle.felica_put.proofs.Laws.{put-then, put-same}
 use Rattle.felica_text.specs.Text.{decimalText}
 use Rattle.felica_line.specs.Line.{acceptedText}
 use Rattle.felica_line.proofs.Marks.{codes-counted}
@@ -17,28 +16,28 @@ put_mark_field-requires c = c.requires
 
 pub shape_of-out : goal.shape_of-out
 shape_of-out c =
-    c.put_mark_field.auto.0
-    ∙ c.put_byte-marks_at.auto.0
-    ∙ c.put_decimal-long_end.auto.0
-    ∙ c.put_byte-long_at.auto.0
-    ∙ c.put_decimal-blocks_end.auto.0
-    ∙ c.put_byte-blocks_at.auto.0
-    ∙ c.put_decimal-codes_end.auto.0
-    ∙ c.put_byte-codes_at.auto.0
-    ∙ c.put_hex_byte-code_end.auto.0
-    ∙ c.put_bytes-code_at.auto.0
+    c.put_mark_field.auto.out
+    ∙ c.put_byte-marks_at.auto.out
+    ∙ c.put_decimal-long_end.auto.out
+    ∙ c.put_byte-long_at.auto.out
+    ∙ c.put_decimal-blocks_end.auto.out
+    ∙ c.put_byte-blocks_at.auto.out
+    ∙ c.put_decimal-codes_end.auto.out
+    ∙ c.put_byte-codes_at.auto.out
+    ∙ c.put_hex_byte-code_end.auto.out
+    ∙ c.put_bytes-code_at.auto.out
 
 pub returns : goal.returns
 unfolding acceptedText
 returns c =
     let a = c.args in
-    let count = put_same _ _ _ c.put_decimal-codes_end.ensures (ap decimalText (sym (codes-counted a.payload.now a.first a.second))) in
-    put_then _ _ _ c.put_bytes-code_at.ensures
-    (put_then _ _ _ c.put_hex_byte-code_end.ensures
-    (put_then _ _ _ c.put_byte-codes_at.ensures
-    (put_then _ _ _ count
-    (put_then _ _ _ c.put_byte-blocks_at.ensures
-    (put_then _ _ _ c.put_decimal-blocks_end.ensures
-    (put_then _ _ _ c.put_byte-long_at.ensures
-    (put_then _ _ _ c.put_decimal-long_end.ensures
-    (put_then _ _ _ c.put_byte-marks_at.ensures c.put_mark_field.ensures))))))))
+    let count = put-same _ _ _ c.put_decimal-codes_end.ensures (ap decimalText (sym (codes-counted a.payload.now a.first a.second))) in
+    put-then _ _ _ c.put_bytes-code_at.ensures
+    (put-then _ _ _ c.put_hex_byte-code_end.ensures
+    (put-then _ _ _ c.put_byte-codes_at.ensures
+    (put-then _ _ _ count
+    (put-then _ _ _ c.put_byte-blocks_at.ensures
+    (put-then _ _ _ c.put_decimal-blocks_end.ensures
+    (put-then _ _ _ c.put_byte-long_at.ensures
+    (put-then _ _ _ c.put_decimal-long_end.ensures
+    (put-then _ _ _ c.put_byte-marks_at.ensures c.put_mark_field.ensures))))))))

@@ -1,14 +1,11 @@
 -- `put_marks` meets its contract: a code for each turn.
 -- Assumes nothing.
-use borrow.Author.Rules.{rules}
 use native.Mathlib.Nat.{sub-zero}
 use native.Mathlib.Omega.{arith}
-use Prim.Native.Nat.{◌+◌, ◌*◌, ◌-◌, ◌≤◌}
-use mathlib.Core.Path.{◌≡◌, refl, ap, ◌∙◌}
-use lib.ListN.{length, drop}
-use Rattle.felica_format.specs.Read.{words_of}
+use Prim.Native.Nat.{◌+◌, ◌-◌}
+use mathlib.Core.Path.{refl, ap, ◌∙◌}
 use Rattle.felica_put.specs.Put.{buffer, put}
-use Rattle.felica_line.specs.Line.{markText, marksText}
+use Rattle.felica_line.specs.Line.{markText}
 use Rattle.felica_line.proofs.Marks.{mark-next, marks-done}
 use Rattle.felica_line.proofs.accepted.put_marks.Goals as goal
 
@@ -40,7 +37,7 @@ loop-i-preserved c =
     let mark = c.mark_of.ensures ∙ ap markText c.word_of-code.ensures in (
       omega arith,
       omega arith,
-      c.put_byte-next.auto.0 ∙ loop.invariant.2,
+      c.put_byte-next.auto.out ∙ loop.invariant.2,
       mark-next (buffer loop.out loop.next) _ loop.from (count - loop.i) (count - (loop.i + 1)) (omega arith) loop.invariant.3 (c.put_byte-next.ensures ∙ ap (put (buffer loop.out loop.next)) mark),
     )
 

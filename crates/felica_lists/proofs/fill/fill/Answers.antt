@@ -1,33 +1,32 @@
 -- `fill` meets its contract: every buffer is measured before one is written.
 -- Assumes nothing.
-use borrow.Author.Rules.{rules}
 use Rattle.felica_format.specs.Command.{Element}
 use Rattle.felica_command.proofs.Inside.{wordsOf-length, values-counted}
 use Rattle.felica_lists.specs.Lists.{buffers}
 use Rattle.felica_lists.specs.Fill.{listsAt}
-use Rattle.felica_lists.proofs.Room.{Room, first, second, numbers, places, modes, none_filled, all-filled}
+use Rattle.felica_lists.proofs.Room.{Room, first, second, numbers, places, modes, none-filled, all-filled}
 use Rattle.felica_lists.proofs.fill.fill.Goals as goal
 
 pub returns-then-first-first_codes : goal.returns-then-first-first_codes
-returns-then-first-first_codes c = none_filled _ _ (first (rw wordsOf-length c.if-first-first_codes.true))
+returns-then-first-first_codes c = none-filled _ _ (first (rw wordsOf-length c.if-first-first_codes.true))
 
 pub returns-then-second-second_codes : goal.returns-then-second-second_codes
-returns-then-second-second_codes c = none_filled _ _ (second (rw wordsOf-length c.if-second-second_codes.true))
+returns-then-second-second_codes c = none-filled _ _ (second (rw wordsOf-length c.if-second-second_codes.true))
 
 pub returns-then-numbers-block_list : goal.returns-then-numbers-block_list
 returns-then-numbers-block_list c =
     let a = c.args in
-    none_filled _ _ (numbers (rw (values-counted a.payload.now a.lists.block_list (λ (e : Element). e.number) c.requires.2) c.if-numbers-block_list.true))
+    none-filled _ _ (numbers (rw (values-counted a.payload.now a.lists.block_list (λ (e : Element). e.number) c.requires.2) c.if-numbers-block_list.true))
 
 pub returns-then-places-block_list : goal.returns-then-places-block_list
 returns-then-places-block_list c =
     let a = c.args in
-    none_filled _ _ (places (rw (values-counted a.payload.now a.lists.block_list (λ (e : Element). e.place) c.requires.2) c.if-places-block_list.true))
+    none-filled _ _ (places (rw (values-counted a.payload.now a.lists.block_list (λ (e : Element). e.place) c.requires.2) c.if-places-block_list.true))
 
 pub returns-then-modes-block_list : goal.returns-then-modes-block_list
 returns-then-modes-block_list c =
     let a = c.args in
-    none_filled _ _ (modes (rw (values-counted a.payload.now a.lists.block_list (λ (e : Element). e.mode) c.requires.2) c.if-modes-block_list.true))
+    none-filled _ _ (modes (rw (values-counted a.payload.now a.lists.block_list (λ (e : Element). e.mode) c.requires.2) c.if-modes-block_list.true))
 
 pub returns : goal.returns
 returns c =

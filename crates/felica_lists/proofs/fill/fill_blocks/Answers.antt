@@ -1,23 +1,20 @@
 -- `fill_blocks` meets its contract: an element for each turn, its values to three buffers.
 -- Assumes nothing.
-use borrow.Author.Rules.{rules}
 use mathlib.Core.Path.{◌≡◌, refl, ap, ◌∙◌, subst}
 use mathlib.Core.List.{map}
 use Prim.Native.Nat.{suc, ◌+◌, ◌-◌, ◌≤◌}
 use native.Mathlib.Nat.{sub-zero}
 use native.Mathlib.Omega.{arith}
 use lib.ListN.{length, drop, length-set}
-use lib.Seq.{sets}
 use Rattle.felica_format.specs.Command.{Element}
 use Rattle.felica_format.specs.Read.{formed}
 use Rattle.felica_command.specs.Types.{elementIs}
-use Rattle.felica_command.specs.Meaning.{part}
 use Rattle.felica_command.specs.Places.{elementsSize}
 use Rattle.felica_command.proofs.Inside.{values-counted}
 use Rattle.felica_cursor.specs.Steps.{elementTaken, ElementPlaced}
 use Rattle.felica_cursor.specs.declared.answers.ElementTaken.{ElementTaken}
 use Rattle.felica_cursor.proofs.Laws.{size-more}
-use Rattle.felica_lists.specs.Fill.{numbersAt, places_at, modesAt}
+use Rattle.felica_lists.specs.Fill.{numbersAt, placesAt, modesAt}
 use Rattle.felica_lists.proofs.Laws.{store-more, store-done, none-refused, elements-next, no-elements}
 use Rattle.felica_lists.proofs.fill.fill_blocks.Goals as goal
 
@@ -67,7 +64,7 @@ loop-i-preserved c =
     let left = a.list.count - loop.i in
     let rest = a.list.count - (loop.i + 1) in
     let one : left ≡ suc rest = omega arith in
-        let next = c.in-Element.next.at in
+    let next = c.in-Element.next.at in
     let answer = c.take_element-taken.ensures in
     let took = answer.0 ∙ ap (elementTaken s) c.in-Element.is in
     let placed = subst (λ (x : ElementTaken). ElementPlaced s loop.at x) c.in-Element.is answer.1 in
@@ -101,6 +98,6 @@ returns c =
     let none = no-elements s loop.at (a.list.count - loop.i) left in
     let inside = c.requires.0 in (
       store-done loop.numbers loop.i a.numbers.now (numbersAt s a.list) (ap (map (λ (e : Element). e.number)) none) (rw (values-counted s a.list (λ (e : Element). e.number) inside) (omega arith)) loop.invariant.5,
-      store-done loop.places loop.i a.places.now (places_at s a.list) (ap (map (λ (e : Element). e.place)) none) (rw (values-counted s a.list (λ (e : Element). e.place) inside) (omega arith)) loop.invariant.6,
+      store-done loop.places loop.i a.places.now (placesAt s a.list) (ap (map (λ (e : Element). e.place)) none) (rw (values-counted s a.list (λ (e : Element). e.place) inside) (omega arith)) loop.invariant.6,
       store-done loop.modes loop.i a.modes.now (modesAt s a.list) (ap (map (λ (e : Element). e.mode)) none) (rw (values-counted s a.list (λ (e : Element). e.mode) inside) (omega arith)) loop.invariant.7,
     )

@@ -1,16 +1,13 @@
 -- `fill_codes` meets its contract: a code for each turn.
 -- Assumes nothing.
-use borrow.Author.Rules.{rules}
-use mathlib.Core.Path.{◌≡◌, refl}
-use Prim.Native.Nat.{◌+◌, ◌*◌, ◌-◌, ◌≤◌}
+use mathlib.Core.Path.{refl}
+use Prim.Native.Nat.{◌+◌, ◌-◌}
 use native.Mathlib.Nat.{sub-zero}
 use native.Mathlib.Omega.{arith}
-use lib.ListN.{length, drop, length-set}
-use lib.Seq.{sets}
-use Rattle.felica_format.specs.Read.{words_of}
+use lib.ListN.{length-set}
 use Rattle.felica_command.specs.Meaning.{codesAt}
 use Rattle.felica_command.proofs.Inside.{wordsOf-length}
-use Rattle.felica_cursor.proofs.Laws.{words-next, no_words}
+use Rattle.felica_cursor.proofs.Laws.{words-next, no-words}
 use Rattle.felica_lists.proofs.Laws.{store-more, store-done}
 use Rattle.felica_lists.proofs.fill.fill_codes.Goals as goal
 
@@ -56,4 +53,4 @@ returns c =
     let loop = c.loop-i in
     let a = c.args in
     let all = codesAt a.payload.now a.list in
-    store-done loop.out loop.i a.out.now all (no_words _ _ (omega arith)) (rw wordsOf-length (omega arith)) loop.invariant.3
+    store-done loop.out loop.i a.out.now all (no-words _ _ (omega arith)) (rw wordsOf-length (omega arith)) loop.invariant.3

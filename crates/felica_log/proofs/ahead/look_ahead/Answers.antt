@@ -1,20 +1,15 @@
 -- `look_ahead` meets its contract: each return is what the tests so far decide.
 -- Assumes nothing.
-use borrow.Author.Rules.{rules}
 use borrow.Author.Tests.{lt-ltb, le-ltb, lt-leb, le-leb}
-use native.Mathlib.Omega.{arith}
 use mathlib.Core.Path.{sym, ◌∙◌}
-use Rattle.felica_log.proofs.Turn.{ahead_none, ahead-some}
+use Rattle.felica_log.proofs.Turn.{ahead-none, ahead-some}
 use Rattle.felica_log.proofs.ahead.look_ahead.Goals as goal
 
 pub returns-then-rest-eq0 : goal.returns-then-rest-eq0
-returns-then-rest-eq0 c = let a = c.args in sym (ahead_none a.rest.now a.room a.totals c.if-rest-eq0.true)
+returns-then-rest-eq0 c = let a = c.args in sym (ahead-none a.rest.now a.room a.totals c.if-rest-eq0.true)
 
 pub returns-then-totals-ge-MAX_RECORDS : goal.returns-then-totals-ge-MAX_RECORDS
 returns-then-totals-ge-MAX_RECORDS c = let a = c.args in rw (ahead-some a.rest.now a.room a.totals c.if-rest-eq0.false, le-leb _ _ c.if-totals-ge-MAX_RECORDS.true)
-
-pub overflow_cast-size : goal.overflow_cast-size
-overflow_cast-size c = omega (arith, c.shared_slice_known-2-1.given 0)
 
 pub returns-then-there-size : goal.returns-then-there-size
 returns-then-there-size c = let a = c.args in rw (ahead-some a.rest.now a.room a.totals c.if-rest-eq0.false, lt-leb _ _ c.if-totals-ge-MAX_RECORDS.false, lt-ltb _ _ c.if-there-size.true)

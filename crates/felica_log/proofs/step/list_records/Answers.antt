@@ -1,15 +1,13 @@
 -- `list_records` meets its contract: a record for each turn.
 -- Assumes nothing.
-use borrow.Author.Rules.{rules}
 use native.Mathlib.Omega.{arith}
-use Prim.Native.Nat.{ℕ, ◌+◌, ◌-◌, ◌≤◌}
+use Prim.Native.Nat.{ℕ, ◌+◌, ◌-◌}
 use mathlib.Core.Path.{◌≡◌, refl, sym, ap, ◌∙◌}
 use lib.ListN.{length, take, drop, length-drop}
 use Rattle.felica_put.specs.Put.{buffer}
-use Rattle.felica_put.proofs.Laws.{take_rest}
+use Rattle.felica_put.proofs.Laws.{take-rest}
 use Rattle.felica_log.specs.Listing.{recordsLeft}
-use Rattle.felica_log.specs.Step.{stepFrom, step}
-use Rattle.felica_log.proofs.Turn.{frame-ahead, frame-inside, step-ended, turn_stopped, turn-listed}
+use Rattle.felica_log.proofs.Turn.{frame-ahead, frame-inside, step-ended, turn-stopped, turn-listed}
 use Rattle.felica_log.proofs.step.list_records.Goals as goal
 
 pub loop-used-init : goal.loop-used-init
@@ -56,8 +54,8 @@ loop-used-preserved c =
     let rest = take (length piece - loop.used) (drop loop.used piece) in
     let line = c.put_frame_line-line in (
       frame-inside piece _ _ _ started ahead,
-      line.auto.0 ∙ loop.invariant.1,
-      turn-listed piece (buffer loop.out loop.next) loop.after loop.used _ _ _ _ (take_rest loop.used piece)
+      line.auto.out ∙ loop.invariant.1,
+      turn-listed piece (buffer loop.out loop.next) loop.after loop.used _ _ _ _ (take-rest loop.used piece)
           (ap (λ (n : ℕ). take n (drop 1 rest)) shown) c.room_behind-room.ensures ahead line.ensures.0 line.ensures.1 line.ensures.2 c.after_record-after.ensures loop.invariant.2,
     )
 
@@ -68,7 +66,7 @@ pub returns-in-Stop : goal.returns-in-Stop
 returns-in-Stop c =
     let loop = c.loop-used in
     let piece = c.args.piece.now in
-    turn_stopped piece (buffer loop.out loop.next) loop.after loop.used _ _ (take_rest loop.used piece) c.room_behind-room.ensures
+    turn-stopped piece (buffer loop.out loop.next) loop.after loop.used _ _ (take-rest loop.used piece) c.room_behind-room.ensures
     (sym c.look_ahead-ahead.ensures ∙ c.in-Stop.is) loop.invariant.2
 
 pub shape_of-out : goal.shape_of-out

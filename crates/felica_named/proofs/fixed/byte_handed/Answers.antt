@@ -4,7 +4,6 @@ use mathlib.Core.Path.{ap}
 use lib.ListN.{get_or}
 use borrow.Author.Tests.{eq-eqb, ne_eqb}
 use Rattle.felica_named.specs.Names.{names}
-use borrow.Author.Rules.{rules}
 use Rattle.felica_named.proofs.fixed.byte_handed.Goals as goal
 
 pub returns-then-name-eq-NOWHERE : goal.returns-then-name-eq-NOWHERE

@@ -2,17 +2,16 @@
 -- Assumes nothing.
 use mathlib.Core.Path.{refl, ap, ◌∙◌}
 use Rattle.felica_format.specs.Basic.{◌and◌}
-use Rattle.felica_named.specs.Names.{names, beginsWith, place_in}
+use Rattle.felica_named.specs.Names.{names, beginsWith, placeIn}
 use Rattle.felica_named.specs.Handed.{byteHanded, wordHanded, fixedWith, fixedNamed}
 use Rattle.felica_named.proofs.Fields.{fixed-is}
-use borrow.Author.Rules.{rules}
 use Rattle.felica_named.proofs.fixed.fixed_named.Goals as goal
 
 pub fill_challenge-requires : goal.fill_challenge-requires
 fill_challenge-requires c = refl
 
 pub returns : goal.returns
-unfolding fixedNamed names beginsWith place_in ◌and◌
+unfolding fixedNamed names beginsWith placeIn ◌and◌
 returns c = let a = c.args in
     let mark = c.stray-mark.result in
     let byte = byteHanded a.text.now a.starts.now mark in

@@ -5,7 +5,6 @@ use lib.ListN.{get_or}
 use borrow.Author.Tests.{eq-eqb, ne_eqb}
 use Rattle.felica_format.specs.Basic.{wordOf}
 use Rattle.felica_named.specs.Names.{names}
-use borrow.Author.Rules.{rules}
 use Rattle.felica_named.proofs.fixed.word_handed.Goals as goal
 
 pub returns-then-name-eq-NOWHERE : goal.returns-then-name-eq-NOWHERE

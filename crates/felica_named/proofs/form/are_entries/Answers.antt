@@ -1,13 +1,8 @@
 -- `felica_named::form::are_entries` meets its contract: what is left to look at decides.
 -- Assumes nothing.
-use borrow.Author.Tests.{not-true, not-false}
 use native.Mathlib.Omega.{arith}
-use Prim.Native.Nat.{◌-◌, ◌≤◌}
-use mathlib.Core.Path.{◌≡◌, refl, sym, ◌∙◌}
-use lib.ListN.{length, drop}
-use Rattle.felica_named.specs.Form.{entries}
-use Rattle.felica_named.proofs.Entries.{entry-bad, entry_next, entry-none, entry-digit, entry-end}
-use borrow.Author.Rules.{rules}
+use mathlib.Core.Path.{refl, sym, ◌∙◌}
+use Rattle.felica_named.proofs.Entries.{entry-bad, entry-next, entry-none, entry-digit, entry-end}
 use Rattle.felica_named.proofs.form.are_entries.Goals as goal
 
 pub loop-i-init : goal.loop-i-init
@@ -20,13 +15,13 @@ pub overflow_add-i : goal.overflow_add-i
 overflow_add-i c = omega arith
 
 pub returns-then-not-is_entry : goal.returns-then-not-is_entry
-returns-then-not-is_entry c = sym (entry-bad _ _ _ _ _ c.loop-i-test.true c.if-byte-eq44.true (sym c.is_entry.ensures ∙ not-true _ c.if-not-is_entry.true)) ∙ c.loop-i.invariant.2
+returns-then-not-is_entry c = sym (entry-bad _ _ _ _ _ c.loop-i-test.true c.if-byte-eq44.true (sym c.is_entry.ensures ∙ c.if-not-is_entry.true)) ∙ c.loop-i.invariant.2
 
 pub loop-i-smaller-then-byte-eq44 : goal.loop-i-smaller-then-byte-eq44
 loop-i-smaller-then-byte-eq44 c = omega arith
 
 pub loop-i-preserved-then-byte-eq44 : goal.loop-i-preserved-then-byte-eq44
-loop-i-preserved-then-byte-eq44 c = (omega arith, omega arith, sym (entry_next _ _ _ _ _ c.loop-i-test.true c.if-byte-eq44.true (sym c.is_entry.ensures ∙ not-false _ c.if-not-is_entry.false)) ∙ c.loop-i.invariant.2)
+loop-i-preserved-then-byte-eq44 c = (omega arith, omega arith, sym (entry-next _ _ _ _ _ c.loop-i-test.true c.if-byte-eq44.true (sym c.is_entry.ensures ∙ c.if-not-is_entry.false)) ∙ c.loop-i.invariant.2)
 
 pub returns-in-NoDigit : goal.returns-in-NoDigit
 returns-in-NoDigit c = sym (entry-none _ _ _ _ _ c.loop-i-test.true c.if-byte-eq44.false (sym c.digit_value-digit.ensures ∙ c.in-NoDigit.is)) ∙ c.loop-i.invariant.2

@@ -1,13 +1,9 @@
 -- `felica_named::form::are_entries` meets its contract: what is left to look at decides.
 -- Assumes nothing.
-use borrow.Author.Tests.{not-true, not-false}
-use native.Mathlib.Omega.{arith}
 use Prim.Native.Nat.{◌-◌, ◌≤◌}
-use mathlib.Core.Path.{◌≡◌, refl, sym, ◌∙◌}
+use mathlib.Core.Path.{◌≡◌}
 use lib.ListN.{length, drop}
 use Rattle.felica_named.specs.Form.{entries}
-use Rattle.felica_named.proofs.Entries.{entry-bad, entry_next, entry-none, entry-digit, entry-end}
-use borrow.Author.Rules.{rules}
 use Rattle.felica_named.proofs.form.are_entries.Given as goal
 
 abbrev pub invariant-loop-i : goal.invariant-loop-i

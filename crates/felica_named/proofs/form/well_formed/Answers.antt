@@ -1,7 +1,6 @@
 -- `felica_named::form::well_formed` meets its contract: the form decides.
 -- Assumes nothing.
 use mathlib.Core.Path.{sym, ap, ◌∙◌}
-use borrow.Author.Tests.{ne_eqb}
 use Rattle.felica_named.specs.Form.{wellFormed}
 use borrow.Author.Rules.{rules}
 use Rattle.felica_named.proofs.form.well_formed.Goals as goal
@@ -36,4 +35,4 @@ returns-in-66 c = c.is_bytes.ensures ∙ sym (ap (λ f. wellFormed f c.args.valu
 
 pub returns-in_default : goal.returns-in_default
 unfolding wellFormed
-returns-in_default c = rw (ne_eqb _ _ c.in_default.in_default-own.rest.0.0.0.0.0.0.1, ne_eqb _ _ c.in_default.in_default-own.rest.0.0.0.0.0.1, ne_eqb _ _ c.in_default.in_default-own.rest.0.0.0.0.1, ne_eqb _ _ c.in_default.in_default-own.rest.0.0.0.1, ne_eqb _ _ c.in_default.in_default-own.rest.0.0.1, ne_eqb _ _ c.in_default.in_default-own.rest.0.1, ne_eqb _ _ c.in_default.in_default-own.rest.1)
+returns-in_default c = search rules

@@ -1,15 +1,12 @@
 -- `felica_named::lists::put_each_small` meets its contract: number after number.
 -- Assumes nothing.
 use native.Mathlib.Omega.{arith}
-use Prim.Native.Nat.{◌-◌, ◌≤◌}
-use mathlib.Core.Path.{◌≡◌, refl, sym, ap, ◌∙◌}
-use lib.ListN.{length, get_or, drop}
-use Rattle.felica_put.specs.Put.{buffer, put}
-use Rattle.felica_put.proofs.Laws.{put_rest}
+use mathlib.Core.Path.{refl, sym, ap, ◌∙◌}
+use lib.ListN.{get_or}
+use Rattle.felica_put.specs.Put.{put}
+use Rattle.felica_put.proofs.Laws.{put-rest}
 use Rattle.felica_calls.proofs.Reading.{value-small}
-use Rattle.felica_named.specs.Values.{numbersFrom}
 use Rattle.felica_named.proofs.Digits.{number-comma, number-digit, number-end}
-use borrow.Author.Rules.{rules}
 use Rattle.felica_named.proofs.lists.put_each_small.Goals as goal
 
 pub loop-i-init : goal.loop-i-init
@@ -25,7 +22,7 @@ pub loop-i-smaller-then-digit-eq44 : goal.loop-i-smaller-then-digit-eq44
 loop-i-smaller-then-digit-eq44 c = omega arith
 
 pub loop-i-preserved-then-digit-eq44 : goal.loop-i-preserved-then-digit-eq44
-loop-i-preserved-then-digit-eq44 c = (omega arith, c.put_byte-next.auto.0 ∙ c.loop-i.invariant.1, put_rest _ _ _ (ap (put _) (sym (number-comma _ _ c.loop-i-test.true 16 _ c.if-digit-eq44.true)) ∙ c.loop-i.invariant.2) c.put_byte-next.ensures)
+loop-i-preserved-then-digit-eq44 c = (omega arith, c.put_byte-next.auto.out ∙ c.loop-i.invariant.1, put-rest _ _ _ (ap (put _) (sym (number-comma _ _ c.loop-i-test.true 16 _ c.if-digit-eq44.true)) ∙ c.loop-i.invariant.2) c.put_byte-next.ensures)
 
 pub overflow_mul-number : goal.overflow_mul-number
 overflow_mul-number c = omega arith
@@ -40,7 +37,7 @@ pub loop-i-preserved : goal.loop-i-preserved
 loop-i-preserved c = (omega arith, c.loop-i.invariant.1, ap (put _) (sym (number-digit _ _ c.loop-i-test.true 16 _ c.if-digit-eq44.false c.value_of.ensures)) ∙ c.loop-i.invariant.2)
 
 pub shape_of-numbers : goal.shape_of-numbers
-shape_of-numbers c = c.put_byte.auto.0 ∙ c.loop-i.invariant.1
+shape_of-numbers c = c.put_byte.auto.out ∙ c.loop-i.invariant.1
 
 pub returns : goal.returns
 returns c = c.put_byte.ensures ∙ ap (put _) (sym (number-end 16 _ _ _ c.loop-i-test.false)) ∙ c.loop-i.invariant.2

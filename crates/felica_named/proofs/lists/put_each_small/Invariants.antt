@@ -1,15 +1,10 @@
 -- `felica_named::lists::put_each_small` meets its contract: number after number.
 -- Assumes nothing.
-use native.Mathlib.Omega.{arith}
 use Prim.Native.Nat.{◌-◌, ◌≤◌}
-use mathlib.Core.Path.{◌≡◌, refl, sym, ap, ◌∙◌}
-use lib.ListN.{length, get_or, drop}
+use mathlib.Core.Path.{◌≡◌}
+use lib.ListN.{length, drop}
 use Rattle.felica_put.specs.Put.{buffer, put}
-use Rattle.felica_put.proofs.Laws.{put_rest}
-use Rattle.felica_calls.proofs.Reading.{value-small}
 use Rattle.felica_named.specs.Values.{numbersFrom}
-use Rattle.felica_named.proofs.Digits.{number-comma, number-digit, number-end}
-use borrow.Author.Rules.{rules}
 use Rattle.felica_named.proofs.lists.put_each_small.Given as goal
 
 abbrev pub invariant-loop-i : goal.invariant-loop-i

@@ -2,7 +2,6 @@
 -- Assumes nothing.
 use borrow.Author.Tests.{lt-ltb, le-ltb}
 use Rattle.felica_put.specs.Put.{put}
-use borrow.Author.Rules.{rules}
 use Rattle.felica_named.proofs.lists.put_word.Goals as goal
 
 pub returns-then-at-words : goal.returns-then-at-words

@@ -3,7 +3,6 @@
 use mathlib.Core.Path.{sym, ◌∙◌}
 use borrow.Author.Tests.{eq-eqb, ne_eqb}
 use Rattle.felica_put.specs.Put.{put}
-use borrow.Author.Rules.{rules}
 use Rattle.felica_named.proofs.lists.put_words.Goals as goal
 
 pub returns-then-value-eq0 : goal.returns-then-value-eq0

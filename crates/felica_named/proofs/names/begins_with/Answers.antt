@@ -1,10 +1,7 @@
 -- `felica_named::names::begins_with` meets its contract: what is left of the key decides.
 -- Assumes nothing.
 use native.Mathlib.Omega.{arith}
-use Prim.Native.Nat.{◌-◌, ◌≤◌}
-use mathlib.Core.Path.{◌≡◌, refl, sym, ◌∙◌}
-use lib.ListN.{length, drop}
-use Rattle.felica_named.specs.Names.{beginsWith}
+use mathlib.Core.Path.{refl, sym, ◌∙◌}
 use Rattle.felica_named.proofs.Placed.{begins-short, begins-other, begins-more, begins-all}
 use Rattle.felica_named.proofs.names.begins_with.Goals as goal
 

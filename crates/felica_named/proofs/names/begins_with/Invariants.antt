@@ -1,11 +1,9 @@
 -- `felica_named::names::begins_with` meets its contract: what is left of the key decides.
 -- Assumes nothing.
-use native.Mathlib.Omega.{arith}
 use Prim.Native.Nat.{◌-◌, ◌≤◌}
-use mathlib.Core.Path.{◌≡◌, refl, sym, ◌∙◌}
+use mathlib.Core.Path.{◌≡◌}
 use lib.ListN.{length, drop}
 use Rattle.felica_named.specs.Names.{beginsWith}
-use Rattle.felica_named.proofs.Placed.{begins-short, begins-other, begins-more, begins-all}
 use Rattle.felica_named.proofs.names.begins_with.Given as goal
 
 abbrev pub invariant-loop-i : goal.invariant-loop-i

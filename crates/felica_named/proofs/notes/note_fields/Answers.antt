@@ -1,7 +1,6 @@
 -- `felica_named::notes::note_fields` meets its contract.
 -- Assumes nothing.
 use Rattle.felica_named.specs.Names.{names}
-use borrow.Author.Rules.{rules}
 use Rattle.felica_named.proofs.notes.note_fields.Goals as goal
 
 pub returns : goal.returns

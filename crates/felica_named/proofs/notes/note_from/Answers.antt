@@ -1,12 +1,10 @@
 -- `felica_named::notes::note_from` meets its contract: field after field.
 -- Assumes nothing.
 use native.Mathlib.Omega.{arith}
-use Prim.Native.Nat.{ℕ, ◌+◌, ◌-◌, ◌≤◌}
-use mathlib.Core.Path.{◌≡◌, refl, sym, ap, ◌∙◌}
+use mathlib.Core.Path.{refl, sym, ap, ◌∙◌}
 use lib.ListN.{length}
-use Rattle.felica_named.specs.Notes.{note, noteFrom}
+use Rattle.felica_named.specs.Notes.{note}
 use Rattle.felica_named.proofs.Noting.{field-inside, note-end, note-wrong, note-more}
-use borrow.Author.Rules.{rules}
 use Rattle.felica_named.proofs.notes.note_from.Goals as goal
 
 pub loop-at-init : goal.loop-at-init
@@ -14,10 +12,10 @@ loop-at-init c = (omega arith, refl, (length c.args.text.now, omega arith, refl)
 
 pub note_field-noted-requires : goal.note_field-noted-requires
 note_field-noted-requires c = let a = c.args in
-    omega (arith, ap length c.field_at-field.ensures, (field-inside a.text.now c.loop-at.at c.loop-at-test.true).inside, c.before.before.before.before.before.before.before.well-formed.1.0.0)
+    omega (arith, ap length c.field_at-field.ensures, (field-inside a.text.now c.loop-at.at c.loop-at-test.true).inside)
 
 pub shape_of-starts-in_default : goal.shape_of-starts-in_default
-shape_of-starts-in_default c = c.note_field-noted.auto.1.1.1.0 ∙ c.loop-at.invariant.1
+shape_of-starts-in_default c = c.note_field-noted.auto.starts ∙ c.loop-at.invariant.1
 
 pub returns-in_default : goal.returns-in_default
 returns-in_default c = let is = c.note_field-noted.ensures ∙ ap (λ f. note c.args.table.now f c.loop-at.at c.loop-at.starts) c.field_at-field.ensures in
@@ -25,7 +23,7 @@ returns-in_default c = let is = c.note_field-noted.ensures ∙ ap (λ f. note c.
 
 pub overflow_add-at : goal.overflow_add-at
 overflow_add-at c = let a = c.args in
-    omega (arith, ap length c.field_at-field.ensures, (field-inside a.text.now c.loop-at.at c.loop-at-test.true).inside, c.before.before.before.before.before.before.before.before.before.before.before.before.well-formed.1.0.0)
+    omega (arith, ap length c.field_at-field.ensures, (field-inside a.text.now c.loop-at.at c.loop-at-test.true).inside)
 
 pub loop-at-smaller : goal.loop-at-smaller
 loop-at-smaller c = let a = c.args in
@@ -36,7 +34,7 @@ pub loop-at-preserved : goal.loop-at-preserved
 loop-at-preserved c = let a = c.args in
     let is = c.note_field-noted.ensures ∙ ap (λ f. note a.table.now f c.loop-at.at c.loop-at.starts) c.field_at-field.ensures in
     let more = note-more _ _ _ _ is c.loop-at-test.true c.loop-at.invariant.2.0 c.loop-at.invariant.2.1 c.in-Whole.is c.loop-at.invariant.2.2 in
-    rw (ap length c.field_at-field.ensures) ((field-inside a.text.now c.loop-at.at c.loop-at-test.true).inside, c.note_field-noted.auto.1.1.1.0 ∙ c.loop-at.invariant.1, more)
+    rw (ap length c.field_at-field.ensures) ((field-inside a.text.now c.loop-at.at c.loop-at-test.true).inside, c.note_field-noted.auto.starts ∙ c.loop-at.invariant.1, more)
 
 pub shape_of-starts : goal.shape_of-starts
 shape_of-starts c = c.loop-at.invariant.1

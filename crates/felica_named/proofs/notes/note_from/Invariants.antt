@@ -1,12 +1,9 @@
 -- `felica_named::notes::note_from` meets its contract: field after field.
 -- Assumes nothing.
-use native.Mathlib.Omega.{arith}
 use Prim.Native.Nat.{ℕ, ◌+◌, ◌-◌, ◌≤◌}
-use mathlib.Core.Path.{◌≡◌, refl, sym, ap, ◌∙◌}
+use mathlib.Core.Path.{◌≡◌}
 use lib.ListN.{length}
-use Rattle.felica_named.specs.Notes.{note, noteFrom}
-use Rattle.felica_named.proofs.Noting.{field-inside, note-end, note-wrong, note-more}
-use borrow.Author.Rules.{rules}
+use Rattle.felica_named.specs.Notes.{noteFrom}
 use Rattle.felica_named.proofs.notes.note_from.Given as goal
 
 abbrev pub invariant-loop-at : goal.invariant-loop-at

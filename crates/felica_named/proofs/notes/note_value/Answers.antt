@@ -1,9 +1,8 @@
 -- `felica_named::notes::note_value` meets its contract.
 -- Assumes nothing.
-use borrow.Author.Tests.{lt-ltb, le-ltb, lt-leb, le-leb, eq-eqb, ne_eqb, not-true, not-false}
+use borrow.Author.Tests.{lt-ltb, le-ltb, lt-leb, le-leb, eq-eqb, ne_eqb}
 use mathlib.Core.Path.{sym, ◌∙◌}
 use Rattle.felica_named.specs.Notes.{noteValue}
-use borrow.Author.Rules.{rules}
 use Rattle.felica_named.proofs.notes.note_value.Goals as goal
 
 pub returns-then-starts-slot : goal.returns-then-starts-slot
@@ -16,12 +15,12 @@ returns-then-starts-slot-ne0 c = rw (lt-leb _ _ c.if-starts-slot.false, ne_eqb _
 
 pub returns-then-not-well_formed : goal.returns-then-not-well_formed
 unfolding noteValue
-returns-then-not-well_formed c = rw (lt-leb _ _ c.if-starts-slot.false, eq-eqb _ _ c.if-starts-slot-ne0.false, sym c.well_formed-2.ensures ∙ not-true _ c.if-not-well_formed.true)
+returns-then-not-well_formed c = rw (lt-leb _ _ c.if-starts-slot.false, eq-eqb _ _ c.if-starts-slot-ne0.false, sym c.well_formed-2.ensures ∙ c.if-not-well_formed.true)
 
 pub returns-then-longest_value-value : goal.returns-then-longest_value-value
 unfolding noteValue
-returns-then-longest_value-value c = rw (lt-leb _ _ c.if-starts-slot.false, eq-eqb _ _ c.if-starts-slot-ne0.false, sym c.well_formed-2.ensures ∙ not-false _ c.if-not-well_formed.false, lt-ltb _ _ (rw c.longest_value.ensures at c.if-longest_value-value.true))
+returns-then-longest_value-value c = rw (lt-leb _ _ c.if-starts-slot.false, eq-eqb _ _ c.if-starts-slot-ne0.false, sym c.well_formed-2.ensures ∙ c.if-not-well_formed.false, lt-ltb _ _ (rw c.longest_value.ensures at c.if-longest_value-value.true))
 
 pub returns : goal.returns
 unfolding noteValue
-returns c = rw (lt-leb _ _ c.if-starts-slot.false, eq-eqb _ _ c.if-starts-slot-ne0.false, sym c.well_formed-2.ensures ∙ not-false _ c.if-not-well_formed.false, le-ltb _ _ (rw c.longest_value.ensures at c.if-longest_value-value.false))
+returns c = rw (lt-leb _ _ c.if-starts-slot.false, eq-eqb _ _ c.if-starts-slot-ne0.false, sym c.well_formed-2.ensures ∙ c.if-not-well_formed.false, le-ltb _ _ (rw c.longest_value.ensures at c.if-longest_value-value.false))

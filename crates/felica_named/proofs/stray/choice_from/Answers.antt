@@ -1,20 +1,20 @@
 -- `felica_named::stray::choice_from` meets its contract.
 -- Assumes nothing.
 use mathlib.Core.Path.{sym, ap}
-use borrow.Author.Tests.{ne_eqb}
+use borrow.Author.Rules.{rules}
 use Rattle.felica_format.specs.Basic.{◌and◌}
-use Rattle.felica_named.specs.Names.{names, beginsWith, place_in}
+use Rattle.felica_named.specs.Names.{names, beginsWith, placeIn}
 use Rattle.felica_named.specs.Handed.{choiceFrom}
 use Rattle.felica_named.proofs.stray.choice_from.Goals as goal
 
 pub returns-in-0 : goal.returns-in-0
-unfolding choiceFrom names place_in beginsWith ◌and◌
+unfolding choiceFrom names placeIn beginsWith ◌and◌
 returns-in-0 c = sym (ap choiceFrom c.in-0.is)
 
 pub returns-in-32 : goal.returns-in-32
-unfolding choiceFrom names place_in beginsWith ◌and◌
+unfolding choiceFrom names placeIn beginsWith ◌and◌
 returns-in-32 c = sym (ap choiceFrom c.in-32.is)
 
 pub returns-in_default : goal.returns-in_default
 unfolding choiceFrom names
-returns-in_default c = rw (ne_eqb _ _ c.in_default.in_default-own.rest.0.1, ne_eqb _ _ c.in_default.in_default-own.rest.1)
+returns-in_default c = search rules

@@ -1,16 +1,16 @@
 -- `felica_named::stray::index_from` meets its contract.
 -- Assumes nothing.
 use mathlib.Core.Path.{sym, ap}
-use borrow.Author.Tests.{ne_eqb}
+use borrow.Author.Rules.{rules}
 use Rattle.felica_format.specs.Basic.{◌and◌}
-use Rattle.felica_named.specs.Names.{names, beginsWith, place_in}
+use Rattle.felica_named.specs.Names.{names, beginsWith, placeIn}
 use Rattle.felica_named.specs.Handed.{indexFrom}
 use Rattle.felica_named.proofs.stray.index_from.Goals as goal
 
 pub returns-in-26 : goal.returns-in-26
-unfolding indexFrom names place_in beginsWith ◌and◌
+unfolding indexFrom names placeIn beginsWith ◌and◌
 returns-in-26 c = sym (ap indexFrom c.in-26.is)
 
 pub returns-in_default : goal.returns-in_default
 unfolding indexFrom names
-returns-in_default c = rw (ne_eqb _ _ c.in_default.in_default-own.rest.1)
+returns-in_default c = search rules

@@ -1,40 +1,40 @@
 -- `felica_named::stray::number_from` meets its contract.
 -- Assumes nothing.
 use mathlib.Core.Path.{sym, ap}
-use borrow.Author.Tests.{ne_eqb}
+use borrow.Author.Rules.{rules}
 use Rattle.felica_format.specs.Basic.{◌and◌}
-use Rattle.felica_named.specs.Names.{names, beginsWith, place_in}
+use Rattle.felica_named.specs.Names.{names, beginsWith, placeIn}
 use Rattle.felica_named.specs.Handed.{numberFrom}
 use Rattle.felica_named.proofs.stray.number_from.Goals as goal
 
 pub returns-in-0 : goal.returns-in-0
-unfolding numberFrom names place_in beginsWith ◌and◌
+unfolding numberFrom names placeIn beginsWith ◌and◌
 returns-in-0 c = sym (ap numberFrom c.in-0.is)
 
 pub returns-in-10 : goal.returns-in-10
-unfolding numberFrom names place_in beginsWith ◌and◌
+unfolding numberFrom names placeIn beginsWith ◌and◌
 returns-in-10 c = sym (ap numberFrom c.in-10.is)
 
 pub returns-in-26 : goal.returns-in-26
-unfolding numberFrom names place_in beginsWith ◌and◌
+unfolding numberFrom names placeIn beginsWith ◌and◌
 returns-in-26 c = sym (ap numberFrom c.in-26.is)
 
 pub returns-in-36 : goal.returns-in-36
-unfolding numberFrom names place_in beginsWith ◌and◌
+unfolding numberFrom names placeIn beginsWith ◌and◌
 returns-in-36 c = sym (ap numberFrom c.in-36.is)
 
 pub returns-in-46 : goal.returns-in-46
-unfolding numberFrom names place_in beginsWith ◌and◌
+unfolding numberFrom names placeIn beginsWith ◌and◌
 returns-in-46 c = sym (ap numberFrom c.in-46.is)
 
 pub returns-in-130 : goal.returns-in-130
-unfolding numberFrom names place_in beginsWith ◌and◌
+unfolding numberFrom names placeIn beginsWith ◌and◌
 returns-in-130 c = sym (ap numberFrom c.in-130.is)
 
 pub returns-in-132 : goal.returns-in-132
-unfolding numberFrom names place_in beginsWith ◌and◌
+unfolding numberFrom names placeIn beginsWith ◌and◌
 returns-in-132 c = sym (ap numberFrom c.in-132.is)
 
 pub returns-in_default : goal.returns-in_default
 unfolding numberFrom names
-returns-in_default c = rw (ne_eqb _ _ c.in_default.in_default-own.rest.0.0.0.0.0.0.1, ne_eqb _ _ c.in_default.in_default-own.rest.0.0.0.0.0.1, ne_eqb _ _ c.in_default.in_default-own.rest.0.0.0.0.1, ne_eqb _ _ c.in_default.in_default-own.rest.0.0.0.1, ne_eqb _ _ c.in_default.in_default-own.rest.0.0.1, ne_eqb _ _ c.in_default.in_default-own.rest.0.1, ne_eqb _ _ c.in_default.in_default-own.rest.1)
+returns-in_default c = search rules

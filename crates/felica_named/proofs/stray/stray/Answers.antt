@@ -1,18 +1,15 @@
 -- `felica_named::stray::stray` meets its contract: what is left of the table decides.
 -- Assumes nothing.
 use native.Mathlib.Omega.{arith}
-use Prim.Native.Nat.{◌-◌}
-use mathlib.Core.Path.{◌≡◌, refl, sym, ap, ◌∙◌}
-use lib.ListN.{length, drop}
+use mathlib.Core.Path.{refl, sym, ap, ◌∙◌}
 use Rattle.felica_format.specs.Basic.{◌and◌}
-use Rattle.felica_named.specs.Names.{names, beginsWith, place_in}
-use Rattle.felica_named.specs.Handed.{strays, strayFrom, strayOf}
+use Rattle.felica_named.specs.Names.{names, beginsWith, placeIn}
+use Rattle.felica_named.specs.Handed.{strays}
 use Rattle.felica_named.proofs.Strays.{stray-here, stray-later, stray-none}
-use borrow.Author.Rules.{rules}
 use Rattle.felica_named.proofs.stray.stray.Goals as goal
 
 pub loop-name-init : goal.loop-name-init
-unfolding names beginsWith place_in ◌and◌
+unfolding names beginsWith placeIn ◌and◌
 loop-name-init c = refl
 
 pub bounds-starts-name : goal.bounds-starts-name

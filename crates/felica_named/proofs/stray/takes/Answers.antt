@@ -5,7 +5,6 @@ use lib.Dec.{eqb}
 use borrow.Author.Tests.{eq-eqb}
 use Rattle.felica_named.specs.Handed.{takes}
 use Rattle.felica_named.proofs.Strays.{not-this}
-use borrow.Author.Rules.{rules}
 use Rattle.felica_named.proofs.stray.takes.Goals as goal
 
 pub returns-then-name-selector_from : goal.returns-then-name-selector_from

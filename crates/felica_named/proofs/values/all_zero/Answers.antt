@@ -1,11 +1,10 @@
 -- `felica_named::values::all_zero` meets its contract: what is left to look at decides.
 -- Assumes nothing.
 use native.Mathlib.Omega.{arith}
-use Prim.Native.Nat.{◌-◌, ◌≤◌}
-use mathlib.Core.Path.{◌≡◌, refl, sym, ap, ◌∙◌}
-use lib.ListN.{length, drop, drop_of_length-le}
+use mathlib.Core.Path.{refl, sym, ap, ◌∙◌}
+use lib.ListN.{drop_of_length-le}
 use Rattle.felica_named.specs.Values.{allZero}
-use Rattle.felica_named.proofs.Digits.{zero-other, zero_more}
+use Rattle.felica_named.proofs.Digits.{zero-other, zero-more}
 use Rattle.felica_named.proofs.values.all_zero.Goals as goal
 
 pub loop-i-init : goal.loop-i-init
@@ -24,7 +23,7 @@ pub loop-i-smaller : goal.loop-i-smaller
 loop-i-smaller c = omega arith
 
 pub loop-i-preserved : goal.loop-i-preserved
-loop-i-preserved c = (omega arith, sym (zero_more _ _ c.loop-i-test.true c.if-value-i-ne48.false) ∙ c.loop-i.invariant.1)
+loop-i-preserved c = (omega arith, sym (zero-more _ _ c.loop-i-test.true c.if-value-i-ne48.false) ∙ c.loop-i.invariant.1)
 
 pub returns : goal.returns
 unfolding allZero

@@ -1,11 +1,9 @@
 -- `felica_named::values::all_zero` meets its contract: what is left to look at decides.
 -- Assumes nothing.
-use native.Mathlib.Omega.{arith}
 use Prim.Native.Nat.{◌-◌, ◌≤◌}
-use mathlib.Core.Path.{◌≡◌, refl, sym, ap, ◌∙◌}
-use lib.ListN.{length, drop, drop_of_length-le}
+use mathlib.Core.Path.{◌≡◌}
+use lib.ListN.{length, drop}
 use Rattle.felica_named.specs.Values.{allZero}
-use Rattle.felica_named.proofs.Digits.{zero-other, zero_more}
 use Rattle.felica_named.proofs.values.all_zero.Given as goal
 
 abbrev pub invariant-loop-i : goal.invariant-loop-i

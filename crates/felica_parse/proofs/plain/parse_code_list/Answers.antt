@@ -1,12 +1,11 @@
 -- `parse_code_list` meets its contract: a walk along its layout, by what each step says.
 -- Assumes nothing.
-use borrow.Author.Rules.{rules}
 use mathlib.Core.Path.{refl, ap, ◌∙◌, subst}
 use Prim.Native.Nat.{◌+◌}
 use native.Mathlib.Omega.{arith}
 use lib.ListN.{drop}
 use Rattle.felica_format.specs.Basic.{zeros}
-use Rattle.felica_format.specs.Read.{words_of, readEach}
+use Rattle.felica_format.specs.Read.{wordsOf, readEach}
 use Rattle.felica_command.specs.Places.{layoutPlaces}
 use Rattle.felica_cursor.specs.Answers.{MovesTo, movedWith, movedGround, listGround}
 use Rattle.felica_cursor.specs.Steps.{codesTaken, CodesPlaced}
@@ -22,8 +21,8 @@ pub returns-in_default : goal.returns-in_default
 returns-in_default c =
     let s = c.args.payload.now in
     let idm = c.take_idm-first.ensures.0 ∙ ap (idmStep s c.take_idm-first.result.idm) c.in_default.is in
-    refused-at s 1 c.args.command-code _ _ _ _ (code-list-layout c.args.command-code c.requires)
-    (body c.args.command-code _ (drop 1 s) ∙ stop _ idm)
+    refused-at s 1 c.args.command_code _ _ _ _ (code-list-layout c.args.command_code c.requires)
+    (body c.args.command_code _ (drop 1 s) ∙ stop _ idm)
     (c.ground.ensures ∙ ap movedGround c.in_default.is) c.refused.ensures
 
 pub returns-in_default-listed : goal.returns-in_default-listed
@@ -31,8 +30,8 @@ returns-in_default-listed c =
     let s = c.args.payload.now in
     let idm = c.take_idm-first.ensures.0 ∙ ap (idmStep s c.take_idm-first.result.idm) c.in-On.is in
     let first = c.take_first_codes-listed.ensures.0 ∙ ap (codesTaken s) c.in_default-listed.is in
-    refused-at s 1 c.args.command-code _ _ _ _ (code-list-layout c.args.command-code c.requires)
-    (body c.args.command-code _ (drop 1 s) ∙ on _ idm (on _ (no-selector _) (stop _ first)))
+    refused-at s 1 c.args.command_code _ _ _ _ (code-list-layout c.args.command_code c.requires)
+    (body c.args.command_code _ (drop 1 s) ∙ on _ idm (on _ (no-selector _) (stop _ first)))
     (c.ground-in_default-listed.ensures ∙ ap listGround c.in_default-listed.is) c.refused-in_default-listed.ensures
 
 pub returns-in_default-end : goal.returns-in_default-end
@@ -41,12 +40,12 @@ returns-in_default-end c =
     let idm = c.take_idm-first.ensures.0 ∙ ap (idmStep s c.take_idm-first.result.idm) c.in-On.is in
     let first = c.take_first_codes-listed.ensures.0 ∙ ap (codesTaken s) c.in-List.is in
     let ending = c.take_end-end.ensures.0 ∙ ap (endStep s (zeros 16)) c.in_default-end.is in
-    refused-at s 1 c.args.command-code _ _ _ _ (code-list-layout c.args.command-code c.requires)
-    (body c.args.command-code _ (drop 1 s) ∙ on _ idm (on _ (no-selector _) (on _ first (on _ (no-codes _ _ _) (on _ (no-elements _ _ _) (on _ (no-data _ _) (stop _ ending)))))))
+    refused-at s 1 c.args.command_code _ _ _ _ (code-list-layout c.args.command_code c.requires)
+    (body c.args.command_code _ (drop 1 s) ∙ on _ idm (on _ (no-selector _) (on _ first (on _ (no-codes _ _ _) (on _ (no-elements _ _ _) (on _ (no-data _ _) (stop _ ending)))))))
     (c.ground-in_default-end.ensures ∙ ap movedGround c.in_default-end.is) c.refused-in_default-end.ensures
 
 pub returns : goal.returns
-unfolding layoutPlaces words_of readEach
+unfolding layoutPlaces wordsOf readEach
 returns c =
     let s = c.args.payload.now in
     let idm = c.take_idm-first.ensures.0 ∙ ap (idmStep s c.take_idm-first.result.idm) c.in-On.is in
@@ -54,7 +53,7 @@ returns c =
     let ending = c.take_end-end.ensures.0 ∙ ap (endStep s (zeros 16)) c.in-On-end.is in
     let behind-idm = subst (λ (x : Moved). MovesTo 9 (movedWith c.take_idm-first.result.idm x)) c.in-On.is c.take_idm-first.ensures.1 in
     let Placed-first = subst (λ (x : ListTaken). CodesPlaced (c.in-On.behind_idm.at + 1) x) c.in-List.is c.take_first_codes-listed.ensures.1 in
-    accepted-at s 1 c.args.command-code _ c.code_list_kind-kind.result _ c.take_idm-first.result.idm (zeros 16) 0 _ _ _ refl (code-list-layout c.args.command-code c.requires) c.code_list_kind-kind.ensures
-    (body c.args.command-code _ (drop 1 s) ∙ on _ idm (on _ (no-selector _) (on _ first (on _ (no-codes _ _ _) (on _ (no-elements _ _ _) (on _ (no-data _ _) (on _ ending (on _ (no-package _) refl))))))))
+    accepted-at s 1 c.args.command_code _ c.code_list_kind-kind.result _ c.take_idm-first.result.idm (zeros 16) 0 _ _ _ refl (code-list-layout c.args.command_code c.requires) c.code_list_kind-kind.ensures
+    (body c.args.command_code _ (drop 1 s) ∙ on _ idm (on _ (no-selector _) (on _ first (on _ (no-codes _ _ _) (on _ (no-elements _ _ _) (on _ (no-data _ _) (on _ ending (on _ (no-package _) refl))))))))
     refl refl
     (places-eq (codes-part s c.in-List.codes _ (omega (arith, Placed-first.0, behind-idm))) refl refl refl refl) refl

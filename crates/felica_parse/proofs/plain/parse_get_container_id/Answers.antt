@@ -3,7 +3,7 @@
 use mathlib.Core.Path.{refl, sym, ap, ◌∙◌, subst}
 use lib.ListN.{drop}
 use Rattle.felica_format.specs.Basic.{zeros}
-use Rattle.felica_format.specs.Read.{words_of, readEach}
+use Rattle.felica_format.specs.Read.{wordsOf, readEach}
 use Rattle.felica_command.specs.Places.{layoutPlaces}
 use Rattle.felica_cursor.specs.Answers.{movedGround}
 use Rattle.felica_command.specs.declared.command.FelicaStandardCommand.TheVariants.{GetContainerId}
@@ -23,7 +23,7 @@ returns-in_default c =
     (c.ground.ensures ∙ ap movedGround c.in_default.is) c.refused.ensures
 
 pub returns : goal.returns
-unfolding layoutPlaces words_of readEach
+unfolding layoutPlaces wordsOf readEach
 returns c =
     let s = c.args.payload.now in
     let ending = c.take_reserved-end.ensures.0 ∙ ap (endStep s (zeros 16)) c.in-On.is in

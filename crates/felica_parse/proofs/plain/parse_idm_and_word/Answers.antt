@@ -1,10 +1,9 @@
 -- `parse_idm_and_word` meets its contract: a walk along its layout, by what each step says.
 -- Assumes nothing.
-use borrow.Author.Rules.{rules}
 use mathlib.Core.Path.{refl, ap, ◌∙◌}
 use lib.ListN.{drop}
 use Rattle.felica_format.specs.Basic.{zeros}
-use Rattle.felica_format.specs.Read.{words_of, readEach}
+use Rattle.felica_format.specs.Read.{wordsOf, readEach}
 use Rattle.felica_command.specs.Places.{layoutPlaces}
 use Rattle.felica_cursor.specs.Answers.{movedGround, wordGround}
 use Rattle.felica_cursor.proofs.Walk.{on, stop, body, no-selector, no-codes, no-elements, no-data, no-package, refused-at, accepted-at}
@@ -16,8 +15,8 @@ pub returns-in_default : goal.returns-in_default
 returns-in_default c =
     let s = c.args.payload.now in
     let idm = c.take_idm-first.ensures.0 ∙ ap (idmStep s c.take_idm-first.result.idm) c.in_default.is in
-    refused-at s 1 c.args.command-code _ _ _ _ (word-layout c.args.command-code c.requires)
-    (body c.args.command-code _ (drop 1 s) ∙ stop _ idm)
+    refused-at s 1 c.args.command_code _ _ _ _ (word-layout c.args.command_code c.requires)
+    (body c.args.command_code _ (drop 1 s) ∙ stop _ idm)
     (c.ground.ensures ∙ ap movedGround c.in_default.is) c.refused.ensures
 
 pub returns-in_default-taken : goal.returns-in_default-taken
@@ -25,17 +24,17 @@ returns-in_default-taken c =
     let s = c.args.payload.now in
     let idm = c.take_idm-first.ensures.0 ∙ ap (idmStep s c.take_idm-first.result.idm) c.in-On.is in
     let ending = c.take_word-taken.ensures.0 ∙ ap (wordStep s) c.in_default-taken.is in
-    refused-at s 1 c.args.command-code _ _ _ _ (word-layout c.args.command-code c.requires)
-    (body c.args.command-code _ (drop 1 s) ∙ on _ idm (on _ (no-selector _) (on _ (no-codes _ _ _) (on _ (no-codes _ _ _) (on _ (no-elements _ _ _) (on _ (no-data _ _) (stop _ ending)))))))
+    refused-at s 1 c.args.command_code _ _ _ _ (word-layout c.args.command_code c.requires)
+    (body c.args.command_code _ (drop 1 s) ∙ on _ idm (on _ (no-selector _) (on _ (no-codes _ _ _) (on _ (no-codes _ _ _) (on _ (no-elements _ _ _) (on _ (no-data _ _) (stop _ ending)))))))
     (c.ground-in_default-taken.ensures ∙ ap wordGround c.in_default-taken.is) c.refused-in_default-taken.ensures
 
 pub returns : goal.returns
-unfolding layoutPlaces words_of readEach
+unfolding layoutPlaces wordsOf readEach
 returns c =
     let s = c.args.payload.now in
     let idm = c.take_idm-first.ensures.0 ∙ ap (idmStep s c.take_idm-first.result.idm) c.in-On.is in
     let ending = c.take_word-taken.ensures.0 ∙ ap (wordStep s) c.in-Word.is in
-    accepted-at s 1 c.args.command-code _ c.word_kind-kind.result _ c.take_idm-first.result.idm (zeros 16) 0 _ _ _ refl (word-layout c.args.command-code c.requires) c.word_kind-kind.ensures
-    (body c.args.command-code _ (drop 1 s) ∙ on _ idm (on _ (no-selector _) (on _ (no-codes _ _ _) (on _ (no-codes _ _ _) (on _ (no-elements _ _ _) (on _ (no-data _ _) (on _ ending (on _ (no-package _) refl))))))))
+    accepted-at s 1 c.args.command_code _ c.word_kind-kind.result _ c.take_idm-first.result.idm (zeros 16) 0 _ _ _ refl (word-layout c.args.command_code c.requires) c.word_kind-kind.ensures
+    (body c.args.command_code _ (drop 1 s) ∙ on _ idm (on _ (no-selector _) (on _ (no-codes _ _ _) (on _ (no-codes _ _ _) (on _ (no-elements _ _ _) (on _ (no-data _ _) (on _ ending (on _ (no-package _) refl))))))))
     refl refl
     refl refl

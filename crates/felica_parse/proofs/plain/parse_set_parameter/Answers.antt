@@ -3,7 +3,7 @@
 use mathlib.Core.Path.{refl, ap, ◌∙◌}
 use lib.ListN.{drop}
 use Rattle.felica_format.specs.Basic.{zeros}
-use Rattle.felica_format.specs.Read.{words_of, readEach}
+use Rattle.felica_format.specs.Read.{wordsOf, readEach}
 use Rattle.felica_command.specs.Places.{layoutPlaces}
 use Rattle.felica_cursor.specs.Answers.{movedGround, parameterGround}
 use Rattle.felica_command.specs.declared.command.FelicaStandardCommand.TheVariants.{SetParameter}
@@ -30,7 +30,7 @@ returns-in_default-taken c =
     (c.ground-in_default-taken.ensures ∙ ap parameterGround c.in_default-taken.is) c.refused-in_default-taken.ensures
 
 pub returns : goal.returns
-unfolding layoutPlaces words_of readEach
+unfolding layoutPlaces wordsOf readEach
 returns c =
     let s = c.args.payload.now in
     let idm = c.take_idm-first.ensures.0 ∙ ap (idmStep s c.take_idm-first.result.idm) c.in-On.is in

@@ -5,7 +5,7 @@ use Prim.Native.Nat.{◌+◌}
 use native.Mathlib.Omega.{arith}
 use lib.ListN.{drop}
 use Rattle.felica_format.specs.Basic.{zeros}
-use Rattle.felica_format.specs.Read.{words_of, readEach}
+use Rattle.felica_format.specs.Read.{wordsOf, readEach}
 use Rattle.felica_command.specs.Meaning.{formedAt}
 use Rattle.felica_command.specs.Places.{layoutPlaces}
 use Rattle.felica_command.proofs.Inside.{wordsOf-length}
@@ -74,7 +74,7 @@ returns-in_default-end c =
     (c.ground-in_default-end.ensures ∙ ap movedGround c.in_default-end.is) c.refused-in_default-end.ensures
 
 pub returns : goal.returns
-unfolding layoutPlaces words_of readEach
+unfolding layoutPlaces wordsOf readEach
 returns c =
     let s = c.args.payload.now in
     let idm = c.take_idm-first.ensures.0 ∙ ap (idmStep s c.take_idm-first.result.idm) c.in-On.is in

@@ -1,11 +1,10 @@
 -- `parse_read` meets its contract: a walk along its layout, by what each step says.
 -- Assumes nothing.
-use borrow.Author.Rules.{rules}
 use mathlib.Core.Path.{refl, ap, ◌∙◌, subst}
 use Prim.Native.Nat.{◌+◌}
 use lib.ListN.{drop}
 use Rattle.felica_format.specs.Basic.{zeros}
-use Rattle.felica_format.specs.Read.{words_of, readEach}
+use Rattle.felica_format.specs.Read.{wordsOf, readEach}
 use Rattle.felica_command.specs.Places.{layoutPlaces}
 use Rattle.felica_cursor.specs.Answers.{blocksGround}
 use Rattle.felica_cursor.specs.Steps.{elementsTaken, ElementsPlaced}
@@ -19,17 +18,17 @@ pub returns-in_default : goal.returns-in_default
 returns-in_default c =
     let s = c.args.payload.now in
     let elements = c.take_first_blocks-elements.ensures.0 ∙ ap (elementsTaken s) c.in_default.is in
-    refused-at s 0 c.args.command-code _ _ _ _ (read-layout c.args.command-code c.requires)
-    (body c.args.command-code _ (drop 0 s) ∙ on _ (no-idm _) (on _ (no-selector _) (on _ (no-codes _ _ _) (on _ (no-codes _ _ _) (stop _ elements)))))
+    refused-at s 0 c.args.command_code _ _ _ _ (read-layout c.args.command_code c.requires)
+    (body c.args.command_code _ (drop 0 s) ∙ on _ (no-idm _) (on _ (no-selector _) (on _ (no-codes _ _ _) (on _ (no-codes _ _ _) (stop _ elements)))))
     (c.ground.ensures ∙ ap blocksGround c.in_default.is) c.refused.ensures
 
 pub returns : goal.returns
-unfolding layoutPlaces words_of readEach
+unfolding layoutPlaces wordsOf readEach
 returns c =
     let s = c.args.payload.now in
     let elements = c.take_first_blocks-elements.ensures.0 ∙ ap (elementsTaken s) c.in-Blocks.is in
     let placed-elements = subst (λ (x : BlocksTaken). ElementsPlaced s (0 + 1) x) c.in-Blocks.is c.take_first_blocks-elements.ensures.1 in
-    accepted-at s 0 c.args.command-code _ c.read_kind-kind.result _ (zeros 8) (zeros 16) c.in-Blocks.long _ _ _ placed-elements.3 (read-layout c.args.command-code c.requires) c.read_kind-kind.ensures
-    (body c.args.command-code _ (drop 0 s) ∙ on _ (no-idm _) (on _ (no-selector _) (on _ (no-codes _ _ _) (on _ (no-codes _ _ _) (on _ elements (on _ (no-data _ _) (on _ (ignored-ending _) (on _ (ignored-package _) refl))))))))
+    accepted-at s 0 c.args.command_code _ c.read_kind-kind.result _ (zeros 8) (zeros 16) c.in-Blocks.long _ _ _ placed-elements.3 (read-layout c.args.command_code c.requires) c.read_kind-kind.ensures
+    (body c.args.command_code _ (drop 0 s) ∙ on _ (no-idm _) (on _ (no-selector _) (on _ (no-codes _ _ _) (on _ (no-codes _ _ _) (on _ elements (on _ (no-data _ _) (on _ (ignored-ending _) (on _ (ignored-package _) refl))))))))
     refl refl
     (places-eq refl refl (elements-part s c.in-Blocks.block_list _ placed-elements.0 placed-elements.1) refl refl) refl

@@ -1,11 +1,10 @@
 -- `felica_text::find::find` meets its contract: what is left to look at is known at each turn.
 -- Assumes nothing.
 use native.Mathlib.Omega.{arith}
-use Prim.Native.Nat.{◌+◌, ◌-◌, ◌≤◌}
-use mathlib.Core.Path.{◌≡◌, ap}
-use lib.ListN.{length, drop, drop_of_length-le}
+use mathlib.Core.Path.{ap}
+use lib.ListN.{length, drop_of_length-le}
 use Rattle.felica_text.specs.Text.{before}
-use Rattle.felica_text.proofs.Before.{before_here, before-later}
+use Rattle.felica_text.proofs.Before.{before-here, before-later}
 use Rattle.felica_text.proofs.find.find.Goals as goal
 
 pub loop-i-init : goal.loop-i-init
@@ -15,7 +14,7 @@ pub bounds-text-i : goal.bounds-text-i
 bounds-text-i c = omega arith
 
 pub returns-then-text-i : goal.returns-then-text-i
-returns-then-text-i c = let e = before_here c.args.byte c.args.text.now c.loop-i.i c.loop-i-test.true c.if-text-i.true in
+returns-then-text-i c = let e = before-here c.args.byte c.args.text.now c.loop-i.i c.loop-i-test.true c.if-text-i.true in
     omega (arith, ap length e, c.loop-i.invariant.1)
 
 pub overflow_add-i : goal.overflow_add-i

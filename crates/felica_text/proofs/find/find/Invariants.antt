@@ -1,11 +1,9 @@
 -- `felica_text::find::find` meets its contract: what is left to look at is known at each turn.
 -- Assumes nothing.
-use native.Mathlib.Omega.{arith}
 use Prim.Native.Nat.{◌+◌, ◌-◌, ◌≤◌}
-use mathlib.Core.Path.{◌≡◌, ap}
-use lib.ListN.{length, drop, drop_of_length-le}
+use mathlib.Core.Path.{◌≡◌}
+use lib.ListN.{length, drop}
 use Rattle.felica_text.specs.Text.{before}
-use Rattle.felica_text.proofs.Before.{before_here, before-later}
 use Rattle.felica_text.proofs.find.find.Given as goal
 
 abbrev pub invariant-loop-i : goal.invariant-loop-i

@@ -3,7 +3,6 @@
 use mathlib.Core.Path.{sym, ap, ◌∙◌}
 use Rattle.felica_put.specs.Put.{put}
 use Rattle.felica_text.proofs.Text.{bytes-none, bytes-some}
-use borrow.Author.Rules.{rules}
 use Rattle.felica_text.proofs.put.put_hex.Goals as goal
 
 pub returns-then-bytes-eq0 : goal.returns-then-bytes-eq0

@@ -1,12 +1,8 @@
 -- `felica_text::put::put_hex_bytes` meets its contract.
 -- Assumes nothing.
-use borrow.Author.Rules.{rules}
 use native.Mathlib.Omega.{arith}
-use Prim.Native.Nat.{◌-◌, ◌≤◌}
-use mathlib.Core.Path.{◌≡◌, refl, ◌∙◌}
-use lib.ListN.{length, drop}
+use mathlib.Core.Path.{refl, ◌∙◌}
 use Rattle.felica_text.specs.Text.{byteText, digitsText}
-use Rattle.felica_put.specs.Put.{buffer, put}
 use Rattle.felica_put.proofs.Laws.{put-more, put-done}
 use Rattle.felica_text.proofs.put.put_hex_bytes.Goals as goal
 
@@ -27,7 +23,7 @@ unfolding digitsText
 loop-i-preserved c = let l = c.loop-i in
     let w = c.put_hex_byte-next in (
       omega arith,
-      w.auto.0 ∙ l.invariant.1,
+      w.auto.out ∙ l.invariant.1,
       put-more digitsText byteText (λ x xs. refl) _ _ _ 0 c.loop-i-test.true l.invariant.2 w.ensures,
     )
 

@@ -1,13 +1,10 @@
 -- `felica_text::put::put_hex_bytes` meets its contract.
 -- Assumes nothing.
-use borrow.Author.Rules.{rules}
-use native.Mathlib.Omega.{arith}
 use Prim.Native.Nat.{◌-◌, ◌≤◌}
-use mathlib.Core.Path.{◌≡◌, refl, ◌∙◌}
+use mathlib.Core.Path.{◌≡◌}
 use lib.ListN.{length, drop}
-use Rattle.felica_text.specs.Text.{byteText, digitsText}
+use Rattle.felica_text.specs.Text.{digitsText}
 use Rattle.felica_put.specs.Put.{buffer, put}
-use Rattle.felica_put.proofs.Laws.{put-more, put-done}
 use Rattle.felica_text.proofs.put.put_hex_bytes.Given as goal
 
 abbrev pub invariant-loop-i : goal.invariant-loop-i

@@ -1,14 +1,11 @@
 -- `felica_text::put::put_nibbles` meets its contract: the first entry, then each behind its comma.
 -- Assumes nothing.
-use borrow.Author.Rules.{rules}
 use native.Mathlib.Omega.{arith}
-use Prim.Native.Nat.{◌-◌, ◌≤◌}
-use mathlib.Core.Path.{◌≡◌, refl, sym, ap, ◌∙◌}
+use mathlib.Core.Path.{refl, sym, ap, ◌∙◌}
 use mathlib.Core.List.{◌∷◌}
-use lib.ListN.{length, drop}
 use Rattle.felica_text.specs.Text.{nibbleText, behindCommas}
-use Rattle.felica_put.specs.Put.{buffer, put}
-use Rattle.felica_put.proofs.Laws.{put_then, put-more, put-done}
+use Rattle.felica_put.specs.Put.{put}
+use Rattle.felica_put.proofs.Laws.{put-then, put-more, put-done}
 use Rattle.felica_text.proofs.Text.{parted-none, parted-some}
 use Rattle.felica_text.proofs.put.put_nibbles.Goals as goal
 
@@ -36,14 +33,14 @@ loop-i-preserved c = let l = c.loop-i in
     let w = c.put_byte-next-in-loop-i in
     let x = c.put_byte-next-in-loop-i-2 in (
       omega arith,
-      x.auto.0 ∙ w.auto.0 ∙ l.invariant.1,
-      put-more (behindCommas nibbleText) (λ a. 44 ∷ nibbleText a) (λ a rest. refl) _ _ _ 0 c.loop-i-test.true l.invariant.2 (put_then _ _ _ w.ensures (rw c.hex_digit-in-loop-i.ensures at x.ensures)),
+      x.auto.out ∙ w.auto.out ∙ l.invariant.1,
+      put-more (behindCommas nibbleText) (λ a. 44 ∷ nibbleText a) (λ a rest. refl) _ _ _ 0 c.loop-i-test.true l.invariant.2 (put-then _ _ _ w.ensures (rw c.hex_digit-in-loop-i.ensures at x.ensures)),
     )
 
 pub shape_of-out : goal.shape_of-out
-shape_of-out c = c.loop-i.invariant.1 ∙ c.put_byte-next.auto.0
+shape_of-out c = c.loop-i.invariant.1 ∙ c.put_byte-next.auto.out
 
 pub returns : goal.returns
 unfolding behindCommas
-returns c = put_then _ _ _ (rw c.hex_digit.ensures at c.put_byte-next.ensures) (put-done (behindCommas nibbleText) _ _ _ refl c.loop-i-test.false c.loop-i.invariant.2)
+returns c = put-then _ _ _ (rw c.hex_digit.ensures at c.put_byte-next.ensures) (put-done (behindCommas nibbleText) _ _ _ refl c.loop-i-test.false c.loop-i.invariant.2)
     ∙ ap (put _) (sym (parted-some nibbleText _ 0 c.if-nibbles-eq0.false))

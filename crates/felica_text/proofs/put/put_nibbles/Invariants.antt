@@ -1,15 +1,10 @@
 -- `felica_text::put::put_nibbles` meets its contract: the first entry, then each behind its comma.
 -- Assumes nothing.
-use borrow.Author.Rules.{rules}
-use native.Mathlib.Omega.{arith}
 use Prim.Native.Nat.{◌-◌, ◌≤◌}
-use mathlib.Core.Path.{◌≡◌, refl, sym, ap, ◌∙◌}
-use mathlib.Core.List.{◌∷◌}
+use mathlib.Core.Path.{◌≡◌}
 use lib.ListN.{length, drop}
 use Rattle.felica_text.specs.Text.{nibbleText, behindCommas}
 use Rattle.felica_put.specs.Put.{buffer, put}
-use Rattle.felica_put.proofs.Laws.{put_then, put-more, put-done}
-use Rattle.felica_text.proofs.Text.{parted-none, parted-some}
 use Rattle.felica_text.proofs.put.put_nibbles.Given as goal
 
 abbrev pub invariant-loop-i : goal.invariant-loop-i

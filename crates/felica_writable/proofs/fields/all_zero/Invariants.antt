@@ -1,16 +1,13 @@
 -- `felica_writable::fields::all_zero` meets its contract. The loop's invariant: zeros so far and zeros from here on are zeros all over.
 -- Assumes nothing.
 use Prim.Native.Nat.{◌-◌}
-use native.Mathlib.Omega.{arith}
-use mathlib.Core.Path.{◌≡◌, refl, ap, ◌∙◌}
-use mathlib.Core.Logic.{⊎_elim}
-use lib.ListN.{length, drop, drop_of_length-le}
-use Rattle.felica_format.specs.Basic.{◌and◌, all_below}
-use Rattle.felica_writable.proofs.Laws.{and-known, zeros-stop, zeros-next}
+use mathlib.Core.Path.{◌≡◌}
+use lib.ListN.{length, drop}
+use Rattle.felica_format.specs.Basic.{◌and◌, allBelow}
 use Rattle.felica_writable.proofs.fields.all_zero.Given as goal
 
 abbrev pub invariant-loop-i : goal.invariant-loop-i
-invariant-loop-i l = (l.clear and all_below 1 (drop l.i l.bytes)) ≡ all_below 1 l.bytes
+invariant-loop-i l = (l.clear and allBelow 1 (drop l.i l.bytes)) ≡ allBelow 1 l.bytes
 
 abbrev pub decreases-loop-i : goal.decreases-loop-i
 decreases-loop-i l = length l.bytes - l.i

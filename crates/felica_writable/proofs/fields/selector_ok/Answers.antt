@@ -2,7 +2,6 @@
 -- Assumes nothing.
 use borrow.Author.Tests.{lt-ltb}
 use Rattle.felica_format.specs.Writable.{selectorOk}
-use borrow.Author.Rules.{rules}
 use Rattle.felica_writable.proofs.fields.selector_ok.Goals as goal
 
 pub returns-in-NoSelector : goal.returns-in-NoSelector

@@ -1,11 +1,10 @@
 -- `felica_writable::lists::all_below` meets its contract.
 -- Assumes nothing.
-use Prim.Native.Nat.{◌-◌, ◌≤◌}
 use native.Mathlib.Omega.{arith}
-use mathlib.Core.Path.{◌≡◌, refl, sym, ap, ◌∙◌}
-use lib.ListN.{length, drop, drop_of_length-le}
-use Rattle.felica_format.specs.Basic.{all_below}
-use Rattle.felica_writable.proofs.Laws.{below_next, below-stop}
+use mathlib.Core.Path.{refl, sym, ap, ◌∙◌}
+use lib.ListN.{drop_of_length-le}
+use Rattle.felica_format.specs.Basic.{allBelow}
+use Rattle.felica_writable.proofs.Laws.{below-next, below-stop}
 use Rattle.felica_writable.proofs.lists.all_below.Goals as goal
 
 pub loop-i-init : goal.loop-i-init
@@ -28,10 +27,10 @@ loop-i-smaller c = omega arith
 pub loop-i-preserved : goal.loop-i-preserved
 loop-i-preserved c =
     let l = c.loop-i in
-    (omega arith, sym (below_next _ _ l.i (omega arith) c.if-bound-list.false) ∙ l.invariant.1)
+    (omega arith, sym (below-next _ _ l.i (omega arith) c.if-bound-list.false) ∙ l.invariant.1)
 
 pub returns : goal.returns
 returns c =
     let list = c.args.list.now in
     let l = c.loop-i in
-    sym (ap (all_below c.args.bound) (drop_of_length-le list {i = l.i} c.loop-i-test.false)) ∙ l.invariant.1
+    sym (ap (allBelow c.args.bound) (drop_of_length-le list {i = l.i} c.loop-i-test.false)) ∙ l.invariant.1

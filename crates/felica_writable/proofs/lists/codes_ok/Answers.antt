@@ -2,9 +2,8 @@
 -- Assumes nothing.
 use mathlib.Core.Path.{◌∙◌}
 use Rattle.felica_format.specs.Writable.{codesOk}
-use Rattle.felica_format.proofs.Tests.{and_assoc}
+use Rattle.felica_format.proofs.Tests.{and-assoc}
 use Rattle.felica_writable.proofs.Laws.{empty-count, and-known}
-use borrow.Author.Rules.{rules}
 use Rattle.felica_writable.proofs.lists.codes_ok.Goals as goal
 
 pub returns-in-NoCodes : goal.returns-in-NoCodes
@@ -13,4 +12,4 @@ returns-in-NoCodes c = λ ns n small. rw c.in-NoCodes.is (empty-count ns n)
 
 pub returns-in-Counted : goal.returns-in-Counted
 unfolding codesOk
-returns-in-Counted c = λ ns n small. rw (c.in-Counted.is, n) (c.is_between.ensures ∙ and-known _ small ∙ and_assoc _ _ _)
+returns-in-Counted c = λ ns n small. rw (c.in-Counted.is, n) (c.is_between.ensures ∙ and-known _ small ∙ and-assoc _ _ _)

@@ -2,7 +2,6 @@
 -- Assumes nothing.
 use Rattle.felica_format.specs.Writable.{packageOk}
 use Rattle.felica_writable.proofs.Laws.{empty-count}
-use borrow.Author.Rules.{rules}
 use Rattle.felica_writable.proofs.lists.package_ok.Goals as goal
 
 pub returns-in-Package : goal.returns-in-Package

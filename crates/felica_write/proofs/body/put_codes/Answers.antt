@@ -2,7 +2,6 @@
 -- Assumes nothing.
 use Rattle.felica_put.specs.Put.{put}
 use Rattle.felica_format.specs.Write.{codesBytes}
-use borrow.Author.Rules.{rules}
 use Rattle.felica_write.proofs.body.put_codes.Goals as goal
 
 pub returns-in-NoCodes : goal.returns-in-NoCodes

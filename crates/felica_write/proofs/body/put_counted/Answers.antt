@@ -1,14 +1,10 @@
 -- `felica_write::body::put_counted` meets its contract.
 -- Assumes nothing.
-use borrow.Author.Rules.{rules}
-use Prim.Native.Nat.{◌-◌, ◌≤◌}
 use native.Mathlib.Omega.{arith}
-use mathlib.Core.Path.{◌≡◌, refl, ◌∙◌}
-use lib.ListN.{length, drop}
-use Rattle.felica_format.specs.Basic.{word_bytes}
+use mathlib.Core.Path.{refl, ◌∙◌}
+use Rattle.felica_format.specs.Basic.{wordBytes}
 use Rattle.felica_format.specs.Write.{wordsBytes}
-use Rattle.felica_put.specs.Put.{buffer, put}
-use Rattle.felica_put.proofs.Laws.{put_then, put-more, put-done}
+use Rattle.felica_put.proofs.Laws.{put-then, put-more, put-done}
 use Rattle.felica_write.proofs.body.put_counted.Goals as goal
 
 pub overflow_cast-list : goal.overflow_cast-list
@@ -35,13 +31,13 @@ loop-i-preserved c =
     let l = c.loop-i in
     let w = c.put_word-next in (
       omega arith,
-      w.auto.0 ∙ l.invariant.1,
-      put-more wordsBytes word_bytes (λ a rest. refl) _ _ _ 0 c.loop-i-test.true l.invariant.2 w.ensures,
+      w.auto.out ∙ l.invariant.1,
+      put-more wordsBytes wordBytes (λ a rest. refl) _ _ _ 0 c.loop-i-test.true l.invariant.2 w.ensures,
     )
 
 pub shape_of-out : goal.shape_of-out
-shape_of-out c = c.loop-i.invariant.1 ∙ c.put_byte-next.auto.0
+shape_of-out c = c.loop-i.invariant.1 ∙ c.put_byte-next.auto.out
 
 pub returns : goal.returns
 unfolding wordsBytes
-returns c = put_then _ _ _ c.put_byte-next.ensures (put-done wordsBytes _ _ _ refl c.loop-i-test.false c.loop-i.invariant.2)
+returns c = put-then _ _ _ c.put_byte-next.ensures (put-done wordsBytes _ _ _ refl c.loop-i-test.false c.loop-i.invariant.2)

@@ -1,14 +1,10 @@
 -- `felica_write::body::put_counted` meets its contract.
 -- Assumes nothing.
-use borrow.Author.Rules.{rules}
 use Prim.Native.Nat.{◌-◌, ◌≤◌}
-use native.Mathlib.Omega.{arith}
-use mathlib.Core.Path.{◌≡◌, refl, ◌∙◌}
+use mathlib.Core.Path.{◌≡◌}
 use lib.ListN.{length, drop}
-use Rattle.felica_format.specs.Basic.{word_bytes}
 use Rattle.felica_format.specs.Write.{wordsBytes}
 use Rattle.felica_put.specs.Put.{buffer, put}
-use Rattle.felica_put.proofs.Laws.{put_then, put-more, put-done}
 use Rattle.felica_write.proofs.body.put_counted.Given as goal
 
 abbrev pub invariant-loop-i : goal.invariant-loop-i

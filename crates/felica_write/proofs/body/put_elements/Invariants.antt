@@ -1,20 +1,12 @@
 -- `felica_write::body::put_elements` meets its contract.
 -- Assumes nothing.
-use borrow.Author.Rules.{rules}
 use Prim.Native.Nat.{◌-◌, ◌≤◌}
-use native.Mathlib.Omega.{arith}
-use mathlib.Core.Path.{◌≡◌, refl, sym, ap, ◌∙◌}
-use mathlib.Core.Bool.{false}
+use mathlib.Core.Path.{◌≡◌}
 use mathlib.Core.List.{[]}
 use lib.ListN.{length, drop}
-use borrow.Author.Tests.{not-true, not-false}
 use Rattle.felica_format.specs.Command.{zipElements}
-use Rattle.felica_format.specs.Write.{elementBytes, eachBytes, elementsBytes}
+use Rattle.felica_format.specs.Write.{eachBytes}
 use Rattle.felica_put.specs.Put.{buffer, put}
-use Rattle.felica_put.proofs.Laws.{put_then, put-more, put-done}
-use Rattle.felica_writable.proofs.Laws.{zip_length}
-use Rattle.felica_write.specs.Body.{element}
-use Rattle.felica_write.proofs.Elements.{zip-at, small_at, counted}
 use Rattle.felica_write.proofs.body.put_elements.Given as goal
 
 abbrev pub invariant-loop-i : goal.invariant-loop-i

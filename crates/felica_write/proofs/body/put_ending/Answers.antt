@@ -1,8 +1,7 @@
 -- `felica_write::body::put_ending` meets its contract.
 -- Assumes nothing.
 use Rattle.felica_format.specs.Write.{endingBytes}
-use Rattle.felica_put.proofs.Laws.{put_then}
-use borrow.Author.Rules.{rules}
+use Rattle.felica_put.proofs.Laws.{put-then}
 use Rattle.felica_write.proofs.body.put_ending.Goals as goal
 
 pub put_challenge-requires : goal.put_challenge-requires
@@ -18,7 +17,7 @@ returns-in-Word c = rw c.in-Word.is c.put_word.ensures
 
 pub returns-in-Words : goal.returns-in-Words
 unfolding endingBytes
-returns-in-Words c = rw c.in-Words.is (put_then _ _ _ c.put_word-next.ensures c.put_word-in-Words.ensures)
+returns-in-Words c = rw c.in-Words.is (put-then _ _ _ c.put_word-next.ensures c.put_word-in-Words.ensures)
 
 pub returns-in-Reserved : goal.returns-in-Reserved
 unfolding endingBytes

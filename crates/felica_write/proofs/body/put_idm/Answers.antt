@@ -1,15 +1,13 @@
 -- `felica_write::body::put_idm` meets its contract.
 -- Assumes nothing.
-use borrow.Author.Tests.{not-true, not-false}
 use Rattle.felica_put.specs.Put.{put}
 use Rattle.felica_format.specs.Write.{idmBytes}
-use borrow.Author.Rules.{rules}
 use Rattle.felica_write.proofs.body.put_idm.Goals as goal
 
 pub returns-then-not-present : goal.returns-then-not-present
 unfolding idmBytes put
-returns-then-not-present c = rw (not-true c.args.present c.if-not-present.true)
+returns-then-not-present c = rw (c.if-not-present.true)
 
 pub returns : goal.returns
 unfolding idmBytes
-returns c = rw (not-false c.args.present c.if-not-present.false) c.put_bytes.ensures
+returns c = rw (c.if-not-present.false) c.put_bytes.ensures

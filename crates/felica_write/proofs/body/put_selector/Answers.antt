@@ -2,7 +2,6 @@
 -- Assumes nothing.
 use Rattle.felica_put.specs.Put.{put}
 use Rattle.felica_format.specs.Write.{selectorBytes}
-use borrow.Author.Rules.{rules}
 use Rattle.felica_write.proofs.body.put_selector.Goals as goal
 
 pub returns-in-NoSelector : goal.returns-in-NoSelector

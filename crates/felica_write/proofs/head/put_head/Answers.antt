@@ -2,7 +2,6 @@
 -- Assumes nothing.
 use native.Mathlib.Omega.{arith}
 use Rattle.felica_put.specs.Put.{put}
-use borrow.Author.Rules.{rules}
 use Rattle.felica_write.proofs.head.put_head.Goals as goal
 
 pub overflow_add-size : goal.overflow_add-size

@@ -1,11 +1,6 @@
 -- `felica_write::size::short_size` meets its contract.
 -- Assumes nothing.
-use borrow.Author.Rules.{rules}
-use Prim.Native.Nat.{◌+◌, ◌-◌, ◌≤◌}
 use native.Mathlib.Omega.{arith}
-use mathlib.Core.Path.{◌≡◌}
-use lib.ListN.{length, drop}
-use Rattle.felica_write.specs.Size.{shortSize}
 use Rattle.felica_write.proofs.Elements.{size-bound, size-next, size-done}
 use Rattle.felica_write.proofs.size.short_size.Goals as goal
 

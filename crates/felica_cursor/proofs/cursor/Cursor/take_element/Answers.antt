@@ -1,13 +1,12 @@
 -- `Cursor::take_element` meets its contract: at each return the bytes that are left are written out, and the tests pick the case.
 -- Assumes nothing.
-use borrow.Author.Rules.{rules}
 use mathlib.Core.Path.{◌≡◌}
 use Prim.Native.Nat.{◌+◌}
 use native.Mathlib.Omega.{arith}
 use lib.ListN.{get_or, drop, drop_of_length-le, length-drop}
 use borrow.Author.Tests.{lt-ltb, le-ltb}
 use Rattle.felica_format.specs.Read.{readElement, readLong, readShort}
-use Rattle.felica_cursor.proofs.Laws.{at_front, at-front-2, at-front-3, long-cut, short_cut}
+use Rattle.felica_cursor.proofs.Laws.{at-front, at-front-2, at-front-3, long-cut, short-cut}
 use Rattle.felica_cursor.proofs.cursor.Cursor.take_element.Goals as goal
 
 pub returns-then-payload-at : goal.returns-then-payload-at
@@ -20,7 +19,7 @@ returns-then-left-lt3 c =
     let s = c.args.payload.now in
     let at = c.args.self.at in (
       simp (
-        at_front s at c.if-payload-at.false,
+        at-front s at c.if-payload-at.false,
         lt-ltb _ _ c.if-header-lt128.true,
         long-cut (get_or s at 0) (drop (at + 1) s) (simp length-drop (omega arith)),
       ),
@@ -41,9 +40,9 @@ returns-then-left-lt2 c =
     let s = c.args.payload.now in
     let at = c.args.self.at in (
       simp (
-        at_front s at c.if-payload-at.false,
+        at-front s at c.if-payload-at.false,
         le-ltb _ _ c.if-header-lt128.false,
-        short_cut (get_or s at 0) (drop (at + 1) s) (simp length-drop (omega arith)),
+        short-cut (get_or s at 0) (drop (at + 1) s) (simp length-drop (omega arith)),
       ),
       tt,
     )

@@ -1,96 +1,67 @@
--- `Cursor::take_elements` meets its contract: the walk takes whole elements, or stands one behind the payload's end, behind a long one that lacks its third byte.
+-- `Cursor::take_elements` meets its contract: those taken stand in front of what the rest gives, and the place tells how many of them were long.
 -- Assumes nothing.
-use borrow.Author.Rules.{rules}
-use mathlib.Core.Path.{◌≡◌, refl, subst}
-use Prim.Native.Nat.{ℕ, ◌+◌, ◌-◌, ◌*◌, ◌≤◌, ◌<◌, suc}
+use Prim.Native.Nat.{◌+◌, ◌-◌, ◌*◌, suc}
 use native.Mathlib.Omega.{arith}
-use lib.ListN.{length, get_or}
+use mathlib.Core.Path.{◌≡◌, refl, sym, ap, ◌∙◌, subst}
+use mathlib.Core.List.{[], ◌∷◌, ◌++◌}
+use lib.ListN.{length, drop, length-append}
+use Rattle.felica_format.specs.Basic.{refuse}
 use Rattle.felica_format.specs.Command.{longCount}
-use Rattle.felica_command.specs.Places.{elementSize}
+use Rattle.felica_format.specs.Read.{formed, readElement}
+use Rattle.felica_format.proofs.Elements.{long-few}
+use Rattle.felica_command.specs.Types.{elementIs}
 use Rattle.felica_command.proofs.Inside.{each-leaves}
-use Rattle.felica_cursor.proofs.Blocks.{size-most, Walk, walk_none, walk_more, walk-cut, walk-done, walk-lacks}
+use Rattle.felica_cursor.specs.Steps.{elementTaken, ElementPlaced}
+use Rattle.felica_cursor.specs.declared.answers.ElementTaken.{ElementTaken}
+use Rattle.felica_cursor.proofs.Laws.{size-more, size-done}
+use Rattle.felica_cursor.proofs.Blocks.{before-none, each-more, each-refused, each-done, long-more, form-size}
 use Rattle.felica_cursor.proofs.cursor.Cursor.take_elements.Goals as goal
 
 pub loop-left-init : goal.loop-left-init
-loop-left-init c =
-    let args = c.args in
-    let same : args.self.at ≡ args.self.at - 1 + 1 = omega arith in
-    subst (λ (at : ℕ). Walk args.payload.now args.self.at args.count at args.count) same (walk_none args.payload.now args.self.at args.count (omega arith))
+loop-left-init c = (([], before-none _, omega arith, omega arith), refl)
 
-pub returns-then-limit-taken : goal.returns-then-limit-taken
-returns-then-limit-taken c =
-    let loop = c.loop-left in
-    let args = c.args in
-    let s = args.payload.now in
-    let more : loop.left ≡ suc (loop.left - 1) = omega arith in
-    let few : length s < loop.taken + 1 + 2 = omega arith in (
-      walk-cut s args.self.at args.count (loop.taken + 1) loop.left (loop.left - 1) more c.cut_off.result few
-          (λ beyond. c.cut_off.ensures.0 (omega arith)) (λ inside. c.cut_off.ensures.1 (omega arith) (omega arith)) loop.invariant,
-      tt,
-    )
-
-pub bounds-payload-taken : goal.bounds-payload-taken
-bounds-payload-taken c = omega arith
-
-pub overflow_add-taken-in-loop-left : goal.overflow_add-taken-in-loop-left
-overflow_add-taken-in-loop-left c =
+pub returns-in_default : goal.returns-in_default
+returns-in_default c =
+    let l = c.loop-left in
     let s = c.args.payload.now in
-    let most = size-most (get_or s (c.loop-left.taken + 1) 0) in
-    omega (arith, most, c.element_size-taken.ensures)
+    let refused : readElement (drop l.at s) ≡ refuse c.ground.result = simp (c.take_element-taken.ensures.0, c.in_default.is, c.ground.ensures) in
+    let more : l.left ≡ suc (l.left - 1) = omega arith in
+    (l.invariant.0.1 ∙ each-refused l.invariant.0.0 l.left (l.left - 1) c.ground.result (drop l.at s) more refused, tt)
 
 pub loop-left-preserved : goal.loop-left-preserved
 loop-left-preserved c =
-    let loop = c.loop-left in
-    let args = c.args in
-    let s = args.payload.now in
-    let more : loop.left ≡ suc (loop.left - 1) = omega arith in
-    let two : loop.taken + 1 + 2 ≤ length s = omega arith in
-    let next : loop.taken + 1 + elementSize (get_or s (loop.taken + 1) 0) ≡ loop.taken + c.element_size-taken.result + 1 = omega (arith, c.element_size-taken.ensures) in
-    subst (λ (at : ℕ). Walk s args.self.at args.count at (loop.left - 1)) next
-    (walk_more s args.self.at args.count (loop.taken + 1) loop.left (loop.left - 1) more two loop.invariant)
-
-pub returns-then-payload-taken : goal.returns-then-payload-taken
-returns-then-payload-taken c =
-    let loop = c.loop-left in
-    let args = c.args in
-    (walk-lacks args.payload.now args.self.at args.count (loop.taken + 1) loop.left (omega arith) loop.invariant, tt)
-
-pub overflow_sub-long : goal.overflow_sub-long
-overflow_sub-long c =
-    let loop = c.loop-left in
-    let args = c.args in
-    let none : loop.left ≡ 0 = omega arith in
-    let inside : loop.taken + 1 ≤ length args.payload.now = omega arith in
-    let (done, read, size, few, reach) = walk-done args.payload.now args.self.at args.count (loop.taken + 1) loop.left none inside loop.invariant in
-    omega (arith, size, few)
-
-pub overflow_mul-long : goal.overflow_mul-long
-overflow_mul-long c = omega arith
-
-pub overflow_sub-long-2 : goal.overflow_sub-long-2
-overflow_sub-long-2 c =
-    let loop = c.loop-left in
-    let args = c.args in
-    let none : loop.left ≡ 0 = omega arith in
-    let inside : loop.taken + 1 ≤ length args.payload.now = omega arith in
-    let (done, read, size, few, reach) = walk-done args.payload.now args.self.at args.count (loop.taken + 1) loop.left none inside loop.invariant in
-    omega (arith, size, few)
+    let l = c.loop-left in
+    let s = c.args.payload.now in
+    let (done, read, place, count) = l.invariant.0 in
+    let e = formed c.in-Element.field-1 (elementIs c.in-Element.field-0) in
+    let next = c.in-Element.next.at in
+    let more : l.left ≡ suc (l.left - 1) = omega arith in
+    let took = c.take_element-taken.ensures.0 ∙ ap (elementTaken s) c.in-Element.is in
+    let placed = subst (λ (x : ElementTaken). ElementPlaced s l.at x) c.in-Element.is c.take_element-taken.ensures.1 in
+    let size = form-size s l.at e _ took in
+    let long = long-more done e in
+    let longer : length (done ++ (e ∷ [])) ≡ length done + 1 = length-append done (e ∷ []) in (
+      (
+        done ++ (e ∷ []),
+        read ∙ each-more done e l.left (l.left - 1) (drop l.at s) (drop next s) more took,
+        omega (arith, placed, size, long, place, longer),
+        omega (arith, count, more, longer),
+      ),
+      l.invariant.1 ∙ size-more s l.at next l.left (l.left - 1) more placed,
+    )
 
 pub overflow_cast-result-2 : goal.overflow_cast-result-2
 overflow_cast-result-2 c =
-    let loop = c.loop-left in
-    let args = c.args in
-    let none : loop.left ≡ 0 = omega arith in
-    let inside : loop.taken + 1 ≤ length args.payload.now = omega arith in
-    let (done, read, size, few, reach) = walk-done args.payload.now args.self.at args.count (loop.taken + 1) loop.left none inside loop.invariant in
-    omega (arith, size, few)
+    let (done, read, place, count) = c.loop-left.invariant.0 in
+    let few = long-few done in
+    omega (arith, few, place, count)
 
 pub returns : goal.returns
 returns c =
-    let loop = c.loop-left in
-    let args = c.args in
-    let none : loop.left ≡ 0 = omega arith in
-    let inside : loop.taken + 1 ≤ length args.payload.now = omega arith in
-    let (done, read, size, few, reach) = walk-done args.payload.now args.self.at args.count (loop.taken + 1) loop.left none inside loop.invariant in
-    let long : loop.taken + 1 - args.self.at - 2 * args.count ≡ longCount done = omega (arith, size) in
-    (rw read, (refl, rw read (each-leaves _ _ _ _ read).1, reach, rw read long))
+    let l = c.loop-left in
+    let s = c.args.payload.now in
+    let (done, read, place, count) = l.invariant.0 in
+    let none : l.left ≡ 0 = omega arith in
+    let all = read ∙ each-done done l.left (drop l.at s) none in
+    let long : l.at - c.args.self.at - 2 * c.args.count ≡ longCount done = omega (arith, place, count, none) in
+    (rw all refl, (refl, rw all (each-leaves _ _ _ _ all).1, sym (l.invariant.1 ∙ size-done s l.at l.left none), rw all long))

@@ -1,18 +1,20 @@
--- `Cursor::take_elements` meets its contract: the walk takes whole elements, or stands one behind the payload's end, behind a long one that lacks its third byte.
+-- Those taken stand in front of what the rest gives, and the place tells how many of them were long.
 -- Assumes nothing.
-use borrow.Author.Rules.{rules}
-use mathlib.Core.Path.{◌≡◌, refl, subst}
-use Prim.Native.Nat.{ℕ, ◌+◌, ◌-◌, ◌*◌, ◌≤◌, ◌<◌, suc}
-use native.Mathlib.Omega.{arith}
-use lib.ListN.{length, get_or}
-use Rattle.felica_format.specs.Command.{longCount}
-use Rattle.felica_command.specs.Places.{elementSize}
-use Rattle.felica_command.proofs.Inside.{each-leaves}
-use Rattle.felica_cursor.proofs.Blocks.{size-most, Walk, walk_none, walk_more, walk-cut, walk-done, walk-lacks}
+use Prim.Native.Nat.{◌+◌, ◌*◌}
+use mathlib.Core.Path.{◌≡◌}
+use mathlib.Core.List.{List}
+use lib.ListN.{length, drop}
+use Rattle.felica_format.specs.Command.{Formed, longCount}
+use Rattle.felica_format.specs.Read.{readEach}
+use Rattle.felica_command.specs.Places.{elementsSize}
+use Rattle.felica_cursor.proofs.Blocks.{before}
 use Rattle.felica_cursor.proofs.cursor.Cursor.take_elements.Given as goal
 
 abbrev pub invariant-loop-left : goal.invariant-loop-left
-invariant-loop-left l = Walk l.payload l.start l.count (l.taken + 1) l.left
+invariant-loop-left l =
+    ((done : List Formed) × (readEach l.count (drop l.start l.payload) ≡ before done (readEach l.left (drop l.at l.payload)))
+    × (l.at ≡ l.start + (2 * length done + longCount done)) × (length done + l.left ≡ l.count))
+    × (l.start + elementsSize l.count (drop l.start l.payload) ≡ l.at + elementsSize l.left (drop l.at l.payload))
 
 abbrev pub decreases-loop-left : goal.decreases-loop-left
 decreases-loop-left l = l.left

@@ -1,6 +1,5 @@
 -- `Cursor::take_end` meets its contract.
 -- Assumes nothing.
-use borrow.Author.Rules.{rules}
 use lib.ListN.{drop}
 use Rattle.felica_format.specs.Command.{noFields}
 use Rattle.felica_cursor.proofs.Laws.{end-measured, moved-alike}

@@ -1,10 +1,9 @@
 -- `Cursor::take_operation_parameter` meets its contract.
 -- Assumes nothing.
-use borrow.Author.Rules.{rules}
 use mathlib.Core.Path.{refl}
 use lib.ListN.{drop_of_length-le}
 use Rattle.felica_format.specs.Read.{readSelector}
-use Rattle.felica_cursor.proofs.Laws.{at_front}
+use Rattle.felica_cursor.proofs.Laws.{at-front}
 use Rattle.felica_cursor.proofs.cursor.Cursor.take_operation_parameter.Goals as goal
 
 pub returns-then-payload-at : goal.returns-then-payload-at
@@ -15,4 +14,4 @@ pub returns : goal.returns
 unfolding readSelector
 returns c =
     let a = c.args in
-    (rw (at_front a.payload.now a.self.at c.if-payload-at.false), refl)
+    (rw (at-front a.payload.now a.self.at c.if-payload-at.false), refl)

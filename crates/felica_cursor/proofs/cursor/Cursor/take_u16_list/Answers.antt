@@ -1,6 +1,5 @@
 -- `Cursor::take_u16_list` meets its contract.
 -- Assumes nothing.
-use borrow.Author.Rules.{rules}
 use mathlib.Core.Path.{subst}
 use Prim.Native.Nat.{ℕ, ◌+◌}
 use Rattle.felica_format.specs.Basic.{bind}
