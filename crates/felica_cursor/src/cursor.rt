@@ -1,9 +1,10 @@
 // A position in a payload, and the steps in front of the fixed bytes that end a layout. Each takes its bytes and hands the position back moved on, or refuses.
 // A position may be any number: from the payload's end on, nothing is left.
-ghost use Rattle.std.specs.Prelude.{◌≡◌, true, length, take, drop, ◌+◌, ◌≤◌};
-ghost use Rattle.felica_format.specs.Basic.{wordOf};
+ghost use Rattle.std.specs.Prelude.{◌≡◌, true, length, take, drop, ◌+◌, ◌-◌, ◌*◌, ◌≤◌, ◌<◌};
+ghost use Rattle.felica_format.specs.Basic.{refuse, wordOf};
 ghost use Rattle.felica_format.specs.Layout.{◌to◌, typeByte, anyByte, boundsAt};
 ghost use Rattle.felica_format.specs.Read.{elementOf, readIdm, readSelector, readCount, readWords, readCodes, readElement, readEach, readElements, readData};
+ghost use Rattle.felica_command.specs.Places.{elementSize};
 ghost use Rattle.felica_command.specs.Types.{elementIs};
 ghost use Rattle.felica_cursor.specs.Answers.{asStep, MovesTo, idmTaken, byteTaken, propertyTypeTaken};
 ghost use Rattle.felica_cursor.specs.Steps.{IdmZero, codesTaken, CodesPlaced, elementTaken, ElementPlaced, elementsTaken};
@@ -16,6 +17,9 @@ use felica_command::command::Part;
 use felica_command::types::{BlockListElement, BlockNumber, NodePropertyByte, NodePropertyType};
 use felica_format::constants::bounds_at;
 use felica_format::{constants, error};
+
+// A list of so many elements is walked by `take_elements`, a shorter one by `take_few`.
+const MANY: u8 = 8;
 
 #[derive(Clone, Copy)]
 pub struct Cursor {
@@ -265,14 +269,46 @@ impl Cursor {
             at = next.at;
             left -= 1;
         }
-        // A short element has two bytes, a long one three.
-        let long = at - start - 2 * (count as usize);
+        let long = long_count(start, at, count);
         BlocksTaken::Blocks(
             Part {
                 start: start,
                 count: count as usize,
             },
-            long as u8,
+            long,
+            Cursor { at: at },
+        )
+    }
+
+    // The same by their first bytes alone, without a jump for the form of each: where the forms of a list change, that is guessed wrongly every other time, and where they
+    // do not, `take_elements` need not wait for each byte before it looks at the next. An element has two bytes at least, so the walk goes on while two are left; a long one
+    // may then lack its third. `taken` is the place of the last byte taken; behind such an element it is the payload's length.
+    fn take_few(self, payload: &[u8], count: u8) -> BlocksTaken
+        requires { (0 < count) × (0 < self.at) × (self.at ≤ length payload.now) }
+        ensures { (readEach count (drop self.at payload.now) ≡ elementsTaken payload.now result) × ElementsPlaced payload.now self.at result }
+    {
+        let start = self.at;
+        let limit = before_two(payload);
+        let mut taken = start - 1;
+        let mut left = count;
+        while 0 < left {
+            if limit <= taken {
+                return BlocksTaken::Refused(cut_off(payload, taken));
+            }
+            taken += element_size(payload[taken + 1]);
+            left -= 1;
+        }
+        if payload.len() <= taken {
+            return BlocksTaken::Refused(error::LONG_BLOCK_NUMBER_MISSING);
+        }
+        let at = taken + 1;
+        let long = long_count(start, at, count);
+        BlocksTaken::Blocks(
+            Part {
+                start: start,
+                count: count as usize,
+            },
+            long,
             Cursor { at: at },
         )
     }
@@ -285,6 +321,9 @@ impl Cursor {
         let ByteTaken::Byte(count, cursor) = counted else {
             return BlocksTaken::Refused(counted.ground());
         };
+        if count < MANY {
+            return cursor.take_few(payload, count);
+        }
         cursor.take_elements(payload, count)
     }
 
@@ -328,4 +367,42 @@ impl Cursor {
             Cursor { at: start + count },
         )
     }
+}
+
+// How many of so many elements are long, by the bytes that they take: a short one has two, a long one three.
+fn long_count(start: usize, at: usize, count: u8) -> u8
+    requires { (start + 2 * count ≤ at) × (at ≤ start + 3 * count) }
+    ensures { result ≡ at - start - 2 * count }
+{
+    (at - start - 2 * (count as usize)) as u8
+}
+
+// Two bytes are left behind every place before this one.
+fn before_two(payload: &[u8]) -> usize
+    ensures { result ≡ length payload.now - 2 }
+{
+    if payload.len() < 2 {
+        0
+    } else {
+        payload.len() - 2
+    }
+}
+
+// The bytes of an element, by its first.
+fn element_size(header: u8) -> usize
+    ensures { result ≡ elementSize header }
+{
+    3 - (header >> 7) as usize
+}
+
+// Why no element is whole behind a place with fewer than two bytes behind it. Only a long element that lacks its third byte takes the place to the payload's length.
+fn cut_off(payload: &[u8], taken: usize) -> u8
+    ensures { (length payload.now ≤ taken → result ≡ 16) × (taken < length payload.now → length payload.now < taken + 3 → readElement (drop (taken + 1) payload.now) ≡ refuse result) }
+{
+    if payload.len() <= taken {
+        return error::LONG_BLOCK_NUMBER_MISSING;
+    }
+    let cursor = Cursor { at: taken + 1 };
+    let element = cursor.take_element(payload);
+    element.ground()
 }

@@ -1,17 +1,39 @@
 -- `Cursor::take_block_list` meets its contract.
 -- Assumes nothing.
-use mathlib.Core.Path.{subst}
-use Prim.Native.Nat.{ℕ, ◌+◌}
+use native.Mathlib.Omega.{arith}
+use mathlib.Core.Path.{◌≡◌, ap, ◌∙◌, subst}
+use Prim.Native.Nat.{ℕ, ◌+◌, ◌-◌}
+use lib.ListN.{length, drop, length-drop}
 use Rattle.felica_format.specs.Basic.{bind}
 use Rattle.felica_format.specs.Read.{readElements}
-use Rattle.felica_cursor.specs.Answers.{MovesTo, byteTaken}
+use Rattle.felica_cursor.specs.Answers.{asStep, MovesTo, byteTaken}
 use Rattle.felica_cursor.specs.Steps.{ElementsPlaced}
 use Rattle.felica_cursor.specs.declared.answers.ByteTaken.{ByteTaken}
+use Rattle.felica_cursor.proofs.Few.{count-taken}
 use Rattle.felica_cursor.proofs.cursor.Cursor.take_block_list.Goals as goal
 
 pub returns-in_default : goal.returns-in_default
 unfolding readElements bind
 returns-in_default c = (simp (c.take_block_count-counted.ensures.0, c.in_default.is, c.ground.ensures), tt)
+
+pub take_few-requires : goal.take_few-requires
+take_few-requires c =
+    let count = c.take_block_count-counted in
+    let s = c.args.payload.now in
+    let next = subst (λ (x : ByteTaken). MovesTo (c.args.self.at + 1) (byteTaken x)) c.in-Byte.is count.ensures.1 in
+    let read = count.ensures.0 ∙ ap (λ (x : ByteTaken). asStep s (byteTaken x)) c.in-Byte.is in
+    let (least, there) = count-taken _ _ 1 255 (drop c.args.self.at s) _ _ read in
+    let left : length (drop c.args.self.at s) ≡ length s - c.args.self.at = length-drop c.args.self.at s in
+    (omega (arith, least), omega (arith, next), omega (arith, next, there, left))
+
+pub returns-then-count-lt-MANY : goal.returns-then-count-lt-MANY
+unfolding readElements bind
+returns-then-count-lt-MANY c =
+    let count = c.take_block_count-counted in
+    let next = subst (λ (x : ByteTaken). MovesTo (c.args.self.at + 1) (byteTaken x)) c.in-Byte.is count.ensures.1 in (
+      simp (count.ensures.0, c.in-Byte.is, c.take_few.ensures.0),
+      subst (λ (n : ℕ). ElementsPlaced c.args.payload.now n c.take_few.result) next c.take_few.ensures.1,
+    )
 
 pub returns : goal.returns
 unfolding readElements bind

@@ -1,6 +1,6 @@
 -- `Cursor::take_elements` meets its contract: those taken stand in front of what the rest gives, and the place tells how many of them were long.
 -- Assumes nothing.
-use Prim.Native.Nat.{◌+◌, ◌-◌, ◌*◌, suc}
+use Prim.Native.Nat.{◌+◌, ◌-◌, suc}
 use native.Mathlib.Omega.{arith}
 use mathlib.Core.Path.{◌≡◌, refl, sym, ap, ◌∙◌, subst}
 use mathlib.Core.List.{[], ◌∷◌, ◌++◌}
@@ -50,11 +50,11 @@ loop-left-preserved c =
       l.invariant.1 ∙ size-more s l.at next l.left (l.left - 1) more placed,
     )
 
-pub overflow_cast-result-2 : goal.overflow_cast-result-2
-overflow_cast-result-2 c =
+pub long_count-long-requires : goal.long_count-long-requires
+long_count-long-requires c =
     let (done, read, place, count) = c.loop-left.invariant.0 in
     let few = long-few done in
-    omega (arith, few, place, count)
+    (omega (arith, few, place, count), omega (arith, few, place, count))
 
 pub returns : goal.returns
 returns c =
@@ -63,5 +63,5 @@ returns c =
     let (done, read, place, count) = l.invariant.0 in
     let none : l.left ≡ 0 = omega arith in
     let all = read ∙ each-done done l.left (drop l.at s) none in
-    let long : l.at - c.args.self.at - 2 * c.args.count ≡ longCount done = omega (arith, place, count, none) in
+    let long : c.long_count-long.result ≡ longCount done = omega (arith, c.long_count-long.ensures, place, count, none) in
     (rw all refl, (refl, rw all (each-leaves _ _ _ _ all).1, sym (l.invariant.1 ∙ size-done s l.at l.left none), rw all long))
