@@ -4,26 +4,26 @@ use Rattle.std.specs.Prelude.{ℕ, ◌≡◌, List, [], ◌∷◌, take}
 use Rattle.felica_command.specs.Places.{Account}
 use Rattle.felica_command.specs.declared.command.Parsed.{Parsed}
 use Rattle.felica_put.specs.Put.{Buffer, put}
-use Rattle.felica_calls.specs.Fault.{faultText}
-use Rattle.felica_calls.specs.Write.{behindCode}
+use Rattle.felica_calls.specs.Fault.{fault_text}
+use Rattle.felica_calls.specs.Write.{behind_code}
 use Rattle.felica_calls.specs.Call.{Called}
 use Rattle.felica_calls.specs.declared.call.Call.{Call}
 use Rattle.felica_calls.specs.declared.call.Call.TheVariants.{Parse, Long, List as ListCall, Write, Wrong}
-use Rattle.felica_answers.specs.Answer.{lineOf}
-use Rattle.felica_answers.specs.Long.{longLine}
-use Rattle.felica_writing.specs.Answer.{writeAnswer}
-use Rattle.felica.specs.Source.{readingOf, payloadIn, bodyAt}
-use Rattle.felica.specs.Lists.{listAnswer}
+use Rattle.felica_answers.specs.Answer.{line_of}
+use Rattle.felica_answers.specs.Long.{long_line}
+use Rattle.felica_writing.specs.Answer.{write_answer}
+use Rattle.felica.specs.Source.{reading_of, payload_in, body_at}
+use Rattle.felica.specs.Lists.{list_answer}
 
 -- of a call to parse, the line of the one result that the definitions allow; of one that asks how many elements were long, the line of what they count; the fields of a call to write stand in the line
 abbrev pub AnswerTo : List ℕ → Call → List ℕ → Buffer → Buffer → Type 0
 AnswerTo line (Parse source n) bytes before after =
-    (p : Parsed) × Account (payloadIn source (take n bytes)) (bodyAt source) (readingOf source (take n bytes)) p
-    × (after ≡ put before (lineOf (payloadIn source (take n bytes)) p))
-AnswerTo line (Long source n) bytes before after = after ≡ put before (longLine (readingOf source (take n bytes)))
-AnswerTo line (ListCall source n z) bytes before after = after ≡ put before (listAnswer (readingOf source (take n bytes)) z)
-AnswerTo line (Write size c) bytes before after = after ≡ put before (writeAnswer size c (behindCode line))
-AnswerTo line (Wrong fault) bytes before after = after ≡ put before (faultText fault)
+    (p : Parsed) × Account (payload_in source (take n bytes)) (body_at source) (reading_of source (take n bytes)) p
+    × (after ≡ put before (line_of (payload_in source (take n bytes)) p))
+AnswerTo line (Long source n) bytes before after = after ≡ put before (long_line (reading_of source (take n bytes)))
+AnswerTo line (ListCall source n z) bytes before after = after ≡ put before (list_answer (reading_of source (take n bytes)) z)
+AnswerTo line (Write size c) bytes before after = after ≡ put before (write_answer size c (behind_code line))
+AnswerTo line (Wrong fault) bytes before after = after ≡ put before (fault_text fault)
 
 unfoldable pub Answered : List ℕ → Called → Buffer → Buffer → Type 0
 Answered line c before after = AnswerTo line c.call c.buffer before after

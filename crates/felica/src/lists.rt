@@ -1,12 +1,12 @@
 // Answers to calls of the list reader. It is lent buffers of the lengths of the call, and the line is put from what stands in them then.
 ghost use Rattle.std.specs.Prelude.{◌≡◌, ◌≤◌, length};
 ghost use Rattle.felica_command.specs.Meaning.{meaning};
-ghost use Rattle.felica_command.specs.Places.{placesOf, Inside};
+ghost use Rattle.felica_command.specs.Places.{places_of, Inside};
 ghost use Rattle.felica_put.specs.Put.{buffer, put};
 ghost use Rattle.felica_lists.specs.Lists.{buffers, outcome, listed};
 ghost use Rattle.felica_calls.specs.Sizes.{Lent};
-ghost use Rattle.felica.specs.Source.{readingOf, payloadIn};
-ghost use Rattle.felica.specs.Lists.{listAnswer};
+ghost use Rattle.felica.specs.Source.{reading_of, payload_in};
+ghost use Rattle.felica.specs.Lists.{list_answer};
 
 use felica_answers::lists::put_listed;
 use felica_calls::sizes::{MAX_LENT, Sizes};
@@ -22,7 +22,7 @@ pub(crate) fn answer_list(
     at: usize,
 ) -> usize
     requires { Lent sizes }
-    ensures { buffer out.new result ≡ put (buffer out.old at) (listAnswer (readingOf source bytes.now) sizes) }
+    ensures { buffer out.new result ≡ put (buffer out.old at) (list_answer (reading_of source bytes.now) sizes) }
 {
     let mut first = [0u16; MAX_LENT];
     let mut second = [0u16; MAX_LENT];
@@ -57,7 +57,7 @@ fn answer_from(
     at: usize,
 ) -> usize
     requires { (sizes.first ≤ length first.old) × (sizes.second ≤ length second.old) × (sizes.numbers ≤ length numbers.old) × (sizes.places ≤ length places.old) × (sizes.modes ≤ length modes.old) }
-    ensures { buffer out.new result ≡ put (buffer out.old at) (listAnswer (readingOf source bytes.now) sizes) }
+    ensures { buffer out.new result ≡ put (buffer out.old at) (list_answer (reading_of source bytes.now) sizes) }
 {
     let first_end = sizes.first;
     let second_end = sizes.second;
@@ -86,7 +86,7 @@ fn list(
     places: &mut [u8],
     modes: &mut [u8],
 ) -> Parsed
-    ensures { (outcome (meaning (payloadIn source bytes.now) result) (buffers first.new second.new numbers.new places.new modes.new) ≡ listed (readingOf source bytes.now) (buffers first.old second.old numbers.old places.old modes.old)) × Inside (payloadIn source bytes.now) (placesOf result) }
+    ensures { (outcome (meaning (payload_in source bytes.now) result) (buffers first.new second.new numbers.new places.new modes.new) ≡ listed (reading_of source bytes.now) (buffers first.old second.old numbers.old places.old modes.old)) × Inside (payload_in source bytes.now) (places_of result) }
 {
     match source {
         Source::Frame => list_frame(bytes, first, second, numbers, places, modes),

@@ -3,7 +3,7 @@
 
 ghost use Rattle.std.specs.Prelude.{◌≤◌, length};
 ghost use Rattle.felica_put.specs.Put.{buffer};
-ghost use Rattle.felica_calls.specs.Call.{readCall};
+ghost use Rattle.felica_calls.specs.Call.{read_call};
 ghost use Rattle.felica.specs.Answers.{Answered, LineAnswered};
 
 mod lists;
@@ -37,7 +37,7 @@ struct State {
 
 // An empty line is answered too, so that there is a line for each line.
 fn answer_call(line: &[u8], bytes: &mut [u8], out: &mut [u8], at: usize) -> usize
-    ensures { Answered line.now (readCall line.now bytes.old) (buffer out.old at) (buffer out.new result) }
+    ensures { Answered line.now (read_call line.now bytes.old) (buffer out.old at) (buffer out.new result) }
 {
     let call = read_call(line, bytes);
     match call {
@@ -50,7 +50,7 @@ fn answer_call(line: &[u8], bytes: &mut [u8], out: &mut [u8], at: usize) -> usiz
 }
 
 fn answer_line(line: &[u8], bytes: &mut [u8], out: &mut [u8], at: usize) -> usize
-    ensures { LineAnswered line.now (readCall line.now bytes.old) (buffer out.old at) (buffer out.new result) }
+    ensures { LineAnswered line.now (read_call line.now bytes.old) (buffer out.old at) (buffer out.new result) }
 {
     let next = answer_call(line, bytes, out, at);
     put_byte(out, next, b'\n')

@@ -3,9 +3,9 @@ ghost use Rattle.std.specs.Prelude.{◌≡◌};
 ghost use Rattle.felica_command.specs.Places.{Account};
 ghost use Rattle.felica_command.specs.declared.command.Parsed.{Parsed};
 ghost use Rattle.felica_put.specs.Put.{buffer, put};
-ghost use Rattle.felica_answers.specs.Answer.{lineOf};
-ghost use Rattle.felica_answers.specs.Long.{longLine};
-ghost use Rattle.felica.specs.Source.{readingOf, payloadIn, bodyAt};
+ghost use Rattle.felica_answers.specs.Answer.{line_of};
+ghost use Rattle.felica_answers.specs.Long.{long_line};
+ghost use Rattle.felica.specs.Source.{reading_of, payload_in, body_at};
 
 use felica_answers::answer::put_answer;
 use felica_answers::long::put_long;
@@ -17,7 +17,7 @@ use felica_secure::parse_secure_payload;
 
 // The line of the one result that the definitions allow.
 pub(crate) fn answer_parse(source: Source, bytes: &[u8], out: &mut [u8], at: usize) -> usize
-    ensures { (p : Parsed) × Account (payloadIn source bytes.now) (bodyAt source) (readingOf source bytes.now) p × (buffer out.new result ≡ put (buffer out.old at) (lineOf (payloadIn source bytes.now) p)) }
+    ensures { (p : Parsed) × Account (payload_in source bytes.now) (body_at source) (reading_of source bytes.now) p × (buffer out.new result ≡ put (buffer out.old at) (line_of (payload_in source bytes.now) p)) }
 {
     let parsed = parse(source, bytes);
     let payload = payload_in(source, bytes);
@@ -26,14 +26,14 @@ pub(crate) fn answer_parse(source: Source, bytes: &[u8], out: &mut [u8], at: usi
 
 // The line that tells how many elements were long.
 pub(crate) fn answer_long(source: Source, bytes: &[u8], out: &mut [u8], at: usize) -> usize
-    ensures { buffer out.new result ≡ put (buffer out.old at) (longLine (readingOf source bytes.now)) }
+    ensures { buffer out.new result ≡ put (buffer out.old at) (long_line (reading_of source bytes.now)) }
 {
     let parsed = parse(source, bytes);
     put_long(out, at, parsed)
 }
 
 fn parse(source: Source, bytes: &[u8]) -> Parsed
-    ensures { Account (payloadIn source bytes.now) (bodyAt source) (readingOf source bytes.now) result }
+    ensures { Account (payload_in source bytes.now) (body_at source) (reading_of source bytes.now) result }
 {
     match source {
         Source::Frame => parse_frame(bytes),
@@ -43,7 +43,7 @@ fn parse(source: Source, bytes: &[u8]) -> Parsed
 }
 
 fn payload_in(source: Source, bytes: &[u8]) -> &[u8]
-    ensures { result.now ≡ payloadIn source bytes.now }
+    ensures { result.now ≡ payload_in source bytes.now }
 {
     match source {
         Source::Frame => payload_of(bytes),

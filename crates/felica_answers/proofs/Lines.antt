@@ -8,13 +8,13 @@ use Rattle.felica_command.specs.declared.command.Refusal.TheVariants.{Number, Of
 use Rattle.felica_write.specs.Writing.{meaning, outcome}
 use Rattle.felica_write.specs.declared.Written.{Written}
 use Rattle.felica_write.specs.declared.Written.TheVariants.{Refused}
-use Rattle.felica_fields.specs.Refused.{refusalText}
-use Rattle.felica_answers.specs.Written.{writtenLine}
+use Rattle.felica_fields.specs.Refused.{refusal_text}
+use Rattle.felica_answers.specs.Written.{written_line}
 
 module _ (written : Written) (room : List ℕ) where
-  pub refusal-line : (why : Refusal) → written ≡ Refused why → refusalText why ≡ writtenLine (outcome (meaning written) room)
-  refusal-line why e = same why ∙ ap (λ w. writtenLine (outcome (meaning w) room)) (sym e)
+  pub refusal_line : (why : Refusal) → written ≡ Refused why → refusal_text why ≡ written_line (outcome (meaning written) room)
+  refusal_line why e = same why ∙ ap (λ w. written_line (outcome (meaning w) room)) (sym e)
     where
-      same : (why : Refusal) → refusalText why ≡ writtenLine (outcome (meaning (Refused why)) room)
+      same : (why : Refusal) → refusal_text why ≡ written_line (outcome (meaning (Refused why)) room)
       same (Number n) = refl
       same (OfCommand n code) = refl

@@ -1,7 +1,7 @@
 // The line that answers a call of the parser: `OK`, the code and the fields of the command, or `NO`, the number of the refusal and the code.
 ghost use Rattle.std.specs.Prelude.{◌≡◌};
 ghost use Rattle.felica_put.specs.Put.{buffer, put};
-ghost use Rattle.felica_answers.specs.Answer.{commandText, lineOf};
+ghost use Rattle.felica_answers.specs.Answer.{command_text, line_of};
 
 use crate::fields::put_fields;
 use felica_command::command::{Answer, FelicaStandardCommand as Command, Parsed};
@@ -11,7 +11,7 @@ use felica_text::put::put_hex_byte;
 
 // The payload is the one that the places in `parsed` count from: of a frame, the bytes behind its length byte.
 pub fn put_answer(out: &mut [u8], at: usize, payload: &[u8], parsed: Parsed) -> usize
-    ensures { buffer out.new result ≡ put (buffer out.old at) (lineOf payload.now parsed) }
+    ensures { buffer out.new result ≡ put (buffer out.old at) (line_of payload.now parsed) }
 {
     let answer = parsed.answer;
     match answer {
@@ -32,7 +32,7 @@ fn put_command(
     idm: [u8; 8],
     challenge: [u8; 16],
 ) -> usize
-    ensures { buffer out.new result ≡ put (buffer out.old at) (commandText payload.now idm challenge command) }
+    ensures { buffer out.new result ≡ put (buffer out.old at) (command_text payload.now idm challenge command) }
 {
     let code_at = put_bytes(out, at, b"OK ");
     let next = put_hex_byte(out, code_at, command.command_code());

@@ -1,9 +1,9 @@
 // The fields of each command in the order of the layouts: IDm, codes, blocks, fixed fields, package.
 ghost use Rattle.std.specs.Prelude.{◌≡◌, List, ◌++◌, ℕ};
-ghost use Rattle.felica_command.specs.Types.{nodePropertyByte, encryptionByte, packetByte};
+ghost use Rattle.felica_command.specs.Types.{node_property_byte, encryption_byte, packet_byte};
 ghost use Rattle.felica_put.specs.Put.{buffer, put};
-ghost use Rattle.felica_fields.specs.Field.{byteField, wordField, firstField, secondField, blocksField, dataField};
-ghost use Rattle.felica_answers.specs.Answer.{rowOf, rowText, idmText};
+ghost use Rattle.felica_fields.specs.Field.{byte_field, word_field, first_field, second_field, blocks_field, data_field};
+ghost use Rattle.felica_answers.specs.Answer.{row_of, row_text, idm_text};
 
 use felica_command::command::{FelicaStandardCommand as Command, Part};
 use felica_command::types::{NodePropertyType, SetParameterEncryptionType, SetParameterPacketType};
@@ -21,7 +21,7 @@ pub(crate) fn put_fields(
     idm: [u8; 8],
     challenge: [u8; 16],
 ) -> usize
-    ensures { buffer out.new result ≡ put (buffer out.old at) (rowText idm (rowOf payload.now challenge command)) }
+    ensures { buffer out.new result ≡ put (buffer out.old at) (row_text idm (row_of payload.now challenge command)) }
 {
     let codes_at = put_idm_of(out, at, command, idm);
     let blocks_at = put_codes_of(out, codes_at, payload, command);
@@ -30,9 +30,9 @@ pub(crate) fn put_fields(
     put_package_of(out, package_at, payload, command)
 }
 
-#[tactic(auto, unfolding(crate::specs::Answer::rowOf, felica_put::specs::Put::put))]
+#[tactic(auto, unfolding(crate::specs::Answer::row_of, felica_put::specs::Put::put))]
 fn put_idm_of(out: &mut [u8], at: usize, command: Command, idm: [u8; 8]) -> usize
-    ensures { (s ch : List ℕ) → buffer out.new result ≡ put (buffer out.old at) (idmText (rowOf s ch command).idm idm) }
+    ensures { (s ch : List ℕ) → buffer out.new result ≡ put (buffer out.old at) (idm_text (row_of s ch command).idm idm) }
 {
     match command {
         Command::Polling { .. }
@@ -50,9 +50,9 @@ fn put_idm_of(out: &mut [u8], at: usize, command: Command, idm: [u8; 8]) -> usiz
     }
 }
 
-#[tactic(auto, unfolding(crate::specs::Answer::rowOf, felica_put::specs::Put::put))]
+#[tactic(auto, unfolding(crate::specs::Answer::row_of, felica_put::specs::Put::put))]
 fn put_codes_of(out: &mut [u8], at: usize, payload: &[u8], command: Command) -> usize
-    ensures { (ch : List ℕ) → buffer out.new result ≡ put (buffer out.old at) (rowOf payload.now ch command).codes }
+    ensures { (ch : List ℕ) → buffer out.new result ≡ put (buffer out.old at) (row_of payload.now ch command).codes }
 {
     match command {
         Command::RequestService { service_codes }
@@ -83,9 +83,9 @@ fn put_codes_of(out: &mut [u8], at: usize, payload: &[u8], command: Command) -> 
     }
 }
 
-#[tactic(auto, unfolding(crate::specs::Answer::rowOf, felica_put::specs::Put::put))]
+#[tactic(auto, unfolding(crate::specs::Answer::row_of, felica_put::specs::Put::put))]
 fn put_blocks_of(out: &mut [u8], at: usize, payload: &[u8], command: Command) -> usize
-    ensures { (ch : List ℕ) → buffer out.new result ≡ put (buffer out.old at) (rowOf payload.now ch command).blocks }
+    ensures { (ch : List ℕ) → buffer out.new result ≡ put (buffer out.old at) (row_of payload.now ch command).blocks }
 {
     match command {
         Command::ReadWithoutEncryption { block_list, .. }
@@ -105,7 +105,7 @@ fn put_blocks_of(out: &mut [u8], at: usize, payload: &[u8], command: Command) ->
 }
 
 fn put_fixed_of(out: &mut [u8], at: usize, command: Command, challenge: [u8; 16]) -> usize
-    ensures { (s : List ℕ) → buffer out.new result ≡ put (buffer out.old at) (rowOf s challenge command).fixed }
+    ensures { (s : List ℕ) → buffer out.new result ≡ put (buffer out.old at) (row_of s challenge command).fixed }
 {
     match command {
         Command::Polling {
@@ -135,9 +135,9 @@ fn put_fixed_of(out: &mut [u8], at: usize, command: Command, challenge: [u8; 16]
     }
 }
 
-#[tactic(auto, unfolding(crate::specs::Answer::rowOf, felica_put::specs::Put::put))]
+#[tactic(auto, unfolding(crate::specs::Answer::row_of, felica_put::specs::Put::put))]
 fn put_package_of(out: &mut [u8], at: usize, payload: &[u8], command: Command) -> usize
-    ensures { (ch : List ℕ) → buffer out.new result ≡ put (buffer out.old at) (rowOf payload.now ch command).issuePackage }
+    ensures { (ch : List ℕ) → buffer out.new result ≡ put (buffer out.old at) (row_of payload.now ch command).issue_package }
 {
     match command {
         Command::RegisterIssueId { package }
@@ -154,7 +154,7 @@ fn put_areas_and_services(
     areas: Part,
     services: Part,
 ) -> usize
-    ensures { buffer out.new result ≡ put (buffer out.old at) (firstField payload.now areas ++ secondField payload.now services) }
+    ensures { buffer out.new result ≡ put (buffer out.old at) (first_field payload.now areas ++ second_field payload.now services) }
 {
     let next = put_first(out, at, payload, areas);
     put_codes_field(out, next, b" second=", payload, services)
@@ -167,7 +167,7 @@ fn put_type_and_nodes(
     node_property_type: NodePropertyType,
     node_codes: Part,
 ) -> usize
-    ensures { buffer out.new result ≡ put (buffer out.old at) (byteField " type=" (nodePropertyByte node_property_type) ++ firstField payload.now node_codes) }
+    ensures { buffer out.new result ≡ put (buffer out.old at) (byte_field " type=" (node_property_byte node_property_type) ++ first_field payload.now node_codes) }
 {
     let next = put_byte_field(out, at, b" type=", node_property_type.to_byte());
     put_first(out, next, payload, node_codes)
@@ -180,7 +180,7 @@ fn put_operation_and_nodes(
     operation_parameter: u8,
     nodes: Part,
 ) -> usize
-    ensures { buffer out.new result ≡ put (buffer out.old at) (byteField " operation=" operation_parameter ++ firstField payload.now nodes) }
+    ensures { buffer out.new result ≡ put (buffer out.old at) (byte_field " operation=" operation_parameter ++ first_field payload.now nodes) }
 {
     let next = put_byte_field(out, at, b" operation=", operation_parameter);
     put_first(out, next, payload, nodes)
@@ -193,7 +193,7 @@ fn put_blocks_and_data(
     block_list: Part,
     data: Part,
 ) -> usize
-    ensures { buffer out.new result ≡ put (buffer out.old at) (blocksField payload.now block_list ++ dataField payload.now «data») }
+    ensures { buffer out.new result ≡ put (buffer out.old at) (blocks_field payload.now block_list ++ data_field payload.now «data») }
 {
     let next = put_block_list(out, at, payload, block_list);
     put_part_field(out, next, b" data=", payload, data)
@@ -206,7 +206,7 @@ fn put_polling(
     request_code: u8,
     time_slots: u8,
 ) -> usize
-    ensures { buffer out.new result ≡ put (buffer out.old at) (wordField " system=" system_code ++ (byteField " request=" request_code ++ byteField " slots=" time_slots)) }
+    ensures { buffer out.new result ≡ put (buffer out.old at) (word_field " system=" system_code ++ (byte_field " request=" request_code ++ byte_field " slots=" time_slots)) }
 {
     let request_at = put_word_field(out, at, b" system=", system_code);
     let slots_at = put_byte_field(out, request_at, b" request=", request_code);
@@ -214,7 +214,7 @@ fn put_polling(
 }
 
 fn put_parent_and_index(out: &mut [u8], at: usize, parent: u16, index: u16) -> usize
-    ensures { buffer out.new result ≡ put (buffer out.old at) (wordField " parent=" parent ++ wordField " index=" index) }
+    ensures { buffer out.new result ≡ put (buffer out.old at) (word_field " parent=" parent ++ word_field " index=" index) }
 {
     let next = put_word_field(out, at, b" parent=", parent);
     put_index(out, next, index)
@@ -226,7 +226,7 @@ fn put_types(
     encryption_type: SetParameterEncryptionType,
     packet_type: SetParameterPacketType,
 ) -> usize
-    ensures { buffer out.new result ≡ put (buffer out.old at) (byteField " encryption=" (encryptionByte encryption_type) ++ byteField " packet=" (packetByte packet_type)) }
+    ensures { buffer out.new result ≡ put (buffer out.old at) (byte_field " encryption=" (encryption_byte encryption_type) ++ byte_field " packet=" (packet_byte packet_type)) }
 {
     let next = put_byte_field(out, at, b" encryption=", encryption_type.to_byte());
     put_byte_field(out, next, b" packet=", packet_type.to_byte())

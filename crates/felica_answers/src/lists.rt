@@ -1,7 +1,7 @@
 // The line that answers a call of the list reader.
 ghost use Rattle.std.specs.Prelude.{◌≡◌, take};
 ghost use Rattle.felica_put.specs.Put.{buffer, put};
-ghost use Rattle.felica_answers.specs.Lists.{listsText, listedText};
+ghost use Rattle.felica_answers.specs.Lists.{lists_text, listed_text};
 
 use felica_command::command::Answer;
 use felica_fields::field::{put_nibbles_field, put_words_field};
@@ -20,7 +20,7 @@ pub fn put_listed(
     places: &[u8],
     modes: &[u8],
 ) -> usize
-    ensures { buffer out.new result ≡ put (buffer out.old at) (listedText answer first.now second.now numbers.now places.now modes.now) }
+    ensures { buffer out.new result ≡ put (buffer out.old at) (listed_text answer first.now second.now numbers.now places.now modes.now) }
 {
     match answer {
         Answer::Command(command) => {
@@ -72,7 +72,7 @@ fn put_lists(
     places: &[u8],
     modes: &[u8],
 ) -> usize
-    ensures { buffer out.new result ≡ put (buffer out.old at) (listsText code first.now second.now numbers.now places.now modes.now) }
+    ensures { buffer out.new result ≡ put (buffer out.old at) (lists_text code first.now second.now numbers.now places.now modes.now) }
 {
     let code_at = put_bytes(out, at, b"OK ");
     let first_at = put_hex_byte(out, code_at, code);

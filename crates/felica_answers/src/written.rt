@@ -2,7 +2,7 @@
 ghost use Rattle.std.specs.Prelude.{◌≡◌};
 ghost use Rattle.felica_put.specs.Put.{buffer, put};
 ghost use Rattle.felica_write.specs.Writing.{meaning, outcome};
-ghost use Rattle.felica_answers.specs.Written.{bytesLine, writtenLine};
+ghost use Rattle.felica_answers.specs.Written.{bytes_line, written_line};
 
 use crate::lists::front_bytes;
 use felica_fields::refusal::put_refusal;
@@ -12,7 +12,7 @@ use felica_write::Written;
 
 // The bytes stand at the front of the buffer that the writer was lent.
 pub fn put_written(out: &mut [u8], at: usize, written: Written, room: &[u8]) -> usize
-    ensures { buffer out.new result ≡ put (buffer out.old at) (writtenLine (outcome (meaning written) room.now)) }
+    ensures { buffer out.new result ≡ put (buffer out.old at) (written_line (outcome (meaning written) room.now)) }
 {
     match written {
         Written::Length(count) => put_count_and_bytes(out, at, count, front_bytes(room, count)),
@@ -21,7 +21,7 @@ pub fn put_written(out: &mut [u8], at: usize, written: Written, room: &[u8]) -> 
 }
 
 fn put_count_and_bytes(out: &mut [u8], at: usize, count: usize, bytes: &[u8]) -> usize
-    ensures { buffer out.new result ≡ put (buffer out.old at) (bytesLine count bytes.now) }
+    ensures { buffer out.new result ≡ put (buffer out.old at) (bytes_line count bytes.now) }
 {
     let count_at = put_bytes(out, at, b"OK ");
     let space_at = put_decimal(out, count_at, count);

@@ -2,8 +2,8 @@
 -- stated by it, the functions for C by Boundary.antt.
 -- Assumes nothing.
 use Rattle.std.specs.Prelude.{ℕ, List}
-use Rattle.felica_command.specs.Meaning.{Fields, fieldsOf}
-use Rattle.felica_command.specs.Places.{placesIn}
+use Rattle.felica_command.specs.Meaning.{Fields, fields_of}
+use Rattle.felica_command.specs.Places.{places_in}
 use Rattle.felica_command.specs.declared.command.Refusal.{Refusal}
 use Rattle.felica_command.specs.declared.command.Refusal.TheVariants.{Number, OfCommand}
 use Rattle.felica_command.specs.declared.command.Answer.{Answer}
@@ -11,7 +11,7 @@ use Rattle.felica_command.specs.declared.command.Answer.TheVariants.{Command as 
 use Rattle.felica_command.specs.declared.command.Parsed.{Parsed}
 use Rattle.felica_c.specs.declared.answer.FelicaAnswer.{FelicaAnswer}
 use Rattle.felica_c.specs.declared.answer.FelicaWritten.{FelicaWritten}
-use Rattle.felica_c.specs.Boundary.{Lent, lent, fixedFields, partsOf, Told, told, answer}
+use Rattle.felica_c.specs.Boundary.{Lent, lent, fixed_fields, parts_of, Told, told, answer}
 
 -- the code, and the two lists that `put_fields` writes
 pub record Put : Type 0 where
@@ -22,29 +22,29 @@ pub record Put : Type 0 where
 abbrev pub put : ℕ → List ℕ → List ℕ → Put
 put code fields parts = record { code = code; fields = fields; parts = parts }
 
-abbrev pub putFields : Fields → Put
-putFields f = put f.code (fixedFields f.selector f.number f.index f.option f.choice) (partsOf (placesIn f))
+abbrev pub put_fields : Fields → Put
+put_fields f = put f.code (fixed_fields f.selector f.number f.index f.option f.choice) (parts_of (places_in f))
 
 abbrev pub refusal : Refusal → ℕ
 refusal (Number n) = n
 refusal (OfCommand n code) = n
 
-abbrev pub refusalCode : Refusal → ℕ
-refusalCode (Number n) = 0
-refusalCode (OfCommand n code) = code
+abbrev pub refusal_code : Refusal → ℕ
+refusal_code (Number n) = 0
+refusal_code (OfCommand n code) = code
 
 -- what is told of a refusal; a command is not asked for
-abbrev pub refusedAnswer : Answer → FelicaAnswer
-refusedAnswer (AnswerRefused why) = answer (refusal why) (refusalCode why) 0
-refusedAnswer (AnswerCommand kind) = answer 0 0 0
+abbrev pub refused_answer : Answer → FelicaAnswer
+refused_answer (AnswerRefused why) = answer (refusal why) (refusal_code why) 0
+refused_answer (AnswerCommand kind) = answer 0 0 0
 
-abbrev pub tellAnswer : List ℕ → List ℕ → ℕ → Answer → Lent → Told
-tellAnswer idm challenge long (AnswerCommand kind) m =
-    told (answer 0 (putFields (fieldsOf kind)).code long) (lent idm challenge (putFields (fieldsOf kind)).fields (putFields (fieldsOf kind)).parts)
-tellAnswer idm challenge long (AnswerRefused why) m = told (refusedAnswer (AnswerRefused why)) m
+abbrev pub tell_answer : List ℕ → List ℕ → ℕ → Answer → Lent → Told
+tell_answer idm challenge long (AnswerCommand kind) m =
+    told (answer 0 (put_fields (fields_of kind)).code long) (lent idm challenge (put_fields (fields_of kind)).fields (put_fields (fields_of kind)).parts)
+tell_answer idm challenge long (AnswerRefused why) m = told (refused_answer (AnswerRefused why)) m
 
 abbrev pub tell : Parsed → Lent → Told
-tell p m = tellAnswer p.idm p.challenge p.long p.answer m
+tell p m = tell_answer p.idm p.challenge p.long p.answer m
 
-abbrev pub unwrittenBy : Refusal → FelicaWritten
-unwrittenBy why = record { refusal = refusal why; length = 0 }
+abbrev pub unwritten_by : Refusal → FelicaWritten
+unwritten_by why = record { refusal = refusal why; length = 0 }

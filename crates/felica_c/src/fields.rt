@@ -1,10 +1,10 @@
 // The fields of a command as numbers, in the order of `fields` and `parts` (include/felica.h), zero where the command lacks them. Each answers the command code.
 ghost use Rattle.std.specs.Prelude.{◌≡◌};
-ghost use Rattle.felica_command.specs.Meaning.{fieldsOf, fields as row, fixed, listed, blocks, packed, noPart};
+ghost use Rattle.felica_command.specs.Meaning.{fields_of, fields as row, fixed, listed, blocks, packed, no_part};
 ghost use Rattle.felica_command.specs.declared.types.ContainerProperty.TheVariants.{Property1};
 ghost use Rattle.felica_command.specs.Places.{places};
-ghost use Rattle.felica_c.specs.Boundary.{partsOf};
-ghost use Rattle.felica_c.specs.Fields.{put, putFields};
+ghost use Rattle.felica_c.specs.Boundary.{parts_of};
+ghost use Rattle.felica_c.specs.Fields.{put, put_fields};
 
 use felica_command::command::{FelicaStandardCommand, Part};
 use felica_format::constants as codes;
@@ -16,7 +16,7 @@ pub(crate) fn put_fields(
     fields: &mut [u16; 5],
     parts: &mut [usize; 10],
 ) -> u8
-    ensures { put result fields.new parts.new ≡ putFields (fieldsOf command) }
+    ensures { put result fields.new parts.new ≡ put_fields (fields_of command) }
 {
     match command {
         FelicaStandardCommand::Polling {
@@ -328,7 +328,7 @@ fn put_fixed(
     option: u8,
     choice: u8,
 ) -> u8
-    ensures { put result fields.new parts.new ≡ putFields (fixed code number index option choice) }
+    ensures { put result fields.new parts.new ≡ put_fields (fixed code number index option choice) }
 {
     *fields = [0, number, index, option as u16, choice as u16];
     put_parts(parts, NONE, NONE, NONE, NONE, NONE);
@@ -342,7 +342,7 @@ fn put_listed(
     selector: u8,
     list: Part,
 ) -> u8
-    ensures { put result fields.new parts.new ≡ putFields (listed code selector list) }
+    ensures { put result fields.new parts.new ≡ put_fields (listed code selector list) }
 {
     *fields = [selector as u16, 0, 0, 0, 0];
     put_parts(parts, list, NONE, NONE, NONE, NONE);
@@ -356,7 +356,7 @@ fn put_two_lists(
     first: Part,
     second: Part,
 ) -> u8
-    ensures { put result fields.new parts.new ≡ putFields (row code 0 first second noPart noPart 0 0 0 0 noPart Property1) }
+    ensures { put result fields.new parts.new ≡ put_fields (row code 0 first second no_part no_part 0 0 0 0 no_part Property1) }
 {
     *fields = [0, 0, 0, 0, 0];
     put_parts(parts, first, second, NONE, NONE, NONE);
@@ -371,7 +371,7 @@ fn put_blocks(
     block_list: Part,
     data: Part,
 ) -> u8
-    ensures { put result fields.new parts.new ≡ putFields (blocks code list block_list «data») }
+    ensures { put result fields.new parts.new ≡ put_fields (blocks code list block_list «data») }
 {
     *fields = [0, 0, 0, 0, 0];
     put_parts(parts, list, NONE, block_list, data, NONE);
@@ -385,7 +385,7 @@ fn put_packed(
     number: u16,
     package: Part,
 ) -> u8
-    ensures { put result fields.new parts.new ≡ putFields (packed code number «package») }
+    ensures { put result fields.new parts.new ≡ put_fields (packed code number «package») }
 {
     *fields = [0, number, 0, 0, 0];
     put_parts(parts, NONE, NONE, NONE, NONE, package);
@@ -400,7 +400,7 @@ fn put_parts(
     data: Part,
     package: Part,
 )
-    ensures { parts.new ≡ partsOf (places first second block_list «data» «package») }
+    ensures { parts.new ≡ parts_of (places first second block_list «data» «package») }
 {
     *parts = [
         first.start,

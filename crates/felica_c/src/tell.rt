@@ -1,7 +1,7 @@
 // A result, told to a caller that knows bytes and numbers only.
 ghost use Rattle.std.specs.Prelude.{◌≡◌};
 ghost use Rattle.felica_c.specs.Boundary.{lent, told};
-ghost use Rattle.felica_c.specs.Fields.{refusedAnswer, tell as tellParsed, unwrittenBy};
+ghost use Rattle.felica_c.specs.Fields.{refused_answer, tell as tell_parsed, unwritten_by};
 
 use crate::answer::{FelicaAnswer, FelicaWritten};
 use crate::fields::put_fields;
@@ -15,7 +15,7 @@ pub fn tell(
     fields: &mut [u16; 5],
     parts: &mut [usize; 10],
 ) -> FelicaAnswer
-    ensures { told result (lent idm.new challenge.new fields.new parts.new) ≡ tellParsed parsed (lent idm.old challenge.old fields.old parts.old) }
+    ensures { told result (lent idm.new challenge.new fields.new parts.new) ≡ tell_parsed parsed (lent idm.old challenge.old fields.old parts.old) }
 {
     let answer = parsed.answer;
     let Answer::Command(command) = answer else {
@@ -36,7 +36,7 @@ pub fn tell(
 
 // What is told of a refusal. A command is not asked for here.
 fn refused(answer: Answer) -> FelicaAnswer
-    ensures { result ≡ refusedAnswer answer }
+    ensures { result ≡ refused_answer answer }
 {
     match answer {
         Answer::Refused(why) => match why {
@@ -61,7 +61,7 @@ fn refused(answer: Answer) -> FelicaAnswer
 
 // A refusal of the writer.
 pub fn unwritten(why: Refusal) -> FelicaWritten
-    ensures { result ≡ unwrittenBy why }
+    ensures { result ≡ unwritten_by why }
 {
     match why {
         Refusal::Number(number) => FelicaWritten {

@@ -2,7 +2,7 @@
 #![tactic(auto)]
 
 ghost use Rattle.std.specs.Prelude.{◌≡◌, drop};
-ghost use Rattle.felica_format.specs.Read.{readFrame};
+ghost use Rattle.felica_format.specs.Read.{read_frame};
 ghost use Rattle.felica_lists.specs.Lists.{buffers, listed};
 ghost use Rattle.felica_c.specs.Boundary.{lent, told, telling};
 
@@ -23,7 +23,7 @@ pub extern "C" fn felica_list_frame(
     fields: &mut [u16; 5],
     parts: &mut [usize; 10],
 ) -> FelicaAnswer
-    ensures { (told result (lent idm.new challenge.new fields.new parts.new) ≡ telling 1 (drop 1 frame.now) (listed (readFrame frame.now) (buffers first.old second.old numbers.old places.old modes.old)).answer (lent idm.old challenge.old fields.old parts.old)) × (buffers first.new second.new numbers.new places.new modes.new ≡ (listed (readFrame frame.now) (buffers first.old second.old numbers.old places.old modes.old)).buffers) }
+    ensures { (told result (lent idm.new challenge.new fields.new parts.new) ≡ telling 1 (drop 1 frame.now) (listed (read_frame frame.now) (buffers first.old second.old numbers.old places.old modes.old)).answer (lent idm.old challenge.old fields.old parts.old)) × (buffers first.new second.new numbers.new places.new modes.new ≡ (listed (read_frame frame.now) (buffers first.old second.old numbers.old places.old modes.old)).buffers) }
 {
     let parsed = list_frame(frame, first, second, numbers, places, modes);
     tell(parsed, idm, challenge, fields, parts)

@@ -2,7 +2,7 @@
 #![tactic(auto)]
 
 ghost use Rattle.std.specs.Prelude.{◌≡◌, drop};
-ghost use Rattle.felica_format.specs.Read.{readFrame};
+ghost use Rattle.felica_format.specs.Read.{read_frame};
 ghost use Rattle.felica_c.specs.Boundary.{lent, told, telling};
 
 use felica_c::answer::FelicaAnswer;
@@ -17,7 +17,7 @@ pub extern "C" fn felica_parse_frame(
     fields: &mut [u16; 5],
     parts: &mut [usize; 10],
 ) -> FelicaAnswer
-    ensures { told result (lent idm.new challenge.new fields.new parts.new) ≡ telling 1 (drop 1 frame.now) (readFrame frame.now) (lent idm.old challenge.old fields.old parts.old) }
+    ensures { told result (lent idm.new challenge.new fields.new parts.new) ≡ telling 1 (drop 1 frame.now) (read_frame frame.now) (lent idm.old challenge.old fields.old parts.old) }
 {
     let parsed = parse_frame(frame);
     tell(parsed, idm, challenge, fields, parts)

@@ -2,7 +2,7 @@
 #![tactic(auto)]
 
 ghost use Rattle.std.specs.Prelude.{◌≡◌};
-ghost use Rattle.felica_format.specs.Read.{readPayload};
+ghost use Rattle.felica_format.specs.Read.{read_payload};
 ghost use Rattle.felica_c.specs.Boundary.{lent, told, telling};
 
 use felica_c::answer::FelicaAnswer;
@@ -17,7 +17,7 @@ pub extern "C" fn felica_parse_payload(
     fields: &mut [u16; 5],
     parts: &mut [usize; 10],
 ) -> FelicaAnswer
-    ensures { told result (lent idm.new challenge.new fields.new parts.new) ≡ telling 1 payload.now (readPayload payload.now) (lent idm.old challenge.old fields.old parts.old) }
+    ensures { told result (lent idm.new challenge.new fields.new parts.new) ≡ telling 1 payload.now (read_payload payload.now) (lent idm.old challenge.old fields.old parts.old) }
 {
     let parsed = parse_payload(payload);
     tell(parsed, idm, challenge, fields, parts)

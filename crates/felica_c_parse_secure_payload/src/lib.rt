@@ -2,7 +2,7 @@
 #![tactic(auto)]
 
 ghost use Rattle.std.specs.Prelude.{◌≡◌};
-ghost use Rattle.felica_format.specs.Read.{readSecure};
+ghost use Rattle.felica_format.specs.Read.{read_secure};
 ghost use Rattle.felica_c.specs.Boundary.{lent, told, telling};
 
 use felica_c::answer::FelicaAnswer;
@@ -18,7 +18,7 @@ pub extern "C" fn felica_parse_secure_payload(
     fields: &mut [u16; 5],
     parts: &mut [usize; 10],
 ) -> FelicaAnswer
-    ensures { told result (lent idm.new challenge.new fields.new parts.new) ≡ telling 0 payload.now (readSecure command_code payload.now) (lent idm.old challenge.old fields.old parts.old) }
+    ensures { told result (lent idm.new challenge.new fields.new parts.new) ≡ telling 0 payload.now (read_secure command_code payload.now) (lent idm.old challenge.old fields.old parts.old) }
 {
     let parsed = parse_secure_payload(command_code, payload);
     tell(parsed, idm, challenge, fields, parts)

@@ -4,7 +4,7 @@
 ghost use Rattle.std.specs.Prelude.{◌≡◌};
 ghost use Rattle.felica_command.specs.Handed.{handed};
 ghost use Rattle.felica_write.specs.Writing.{writing};
-ghost use Rattle.felica_c.specs.Boundary.{fixed, writtenAnswer};
+ghost use Rattle.felica_c.specs.Boundary.{fixed, written_answer};
 
 use felica_c::answer::FelicaWritten;
 use felica_c::tell::unwritten;
@@ -30,7 +30,7 @@ pub extern "C" fn felica_write(
     package: &[u8],
     out: &mut [u8],
 ) -> FelicaWritten
-    ensures { (result ≡ writtenAnswer (writing (handed code (fixed idm.now challenge.now selector number index option choice) first.now second.now numbers.now places.now modes.now «data».now «package».now) out.old).answer) × (out.new ≡ (writing (handed code (fixed idm.now challenge.now selector number index option choice) first.now second.now numbers.now places.now modes.now «data».now «package».now) out.old).buffer) }
+    ensures { (result ≡ written_answer (writing (handed code (fixed idm.now challenge.now selector number index option choice) first.now second.now numbers.now places.now modes.now «data».now «package».now) out.old).answer) × (out.new ≡ (writing (handed code (fixed idm.now challenge.now selector number index option choice) first.now second.now numbers.now places.now modes.now «data».now «package».now) out.old).buffer) }
 {
     let its_idm = *idm;
     let its_challenge = *challenge;

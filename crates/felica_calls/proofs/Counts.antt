@@ -9,13 +9,13 @@ use lib.Dec.{ltb, eqb}
 use lib.ListN.{length, drop, length-append, length-drop}
 use borrow.Author.Tests.{ltb-false}
 use Rattle.felica_text.specs.Text.{text}
-use Rattle.felica_calls.specs.Field.{fieldOf, behindField, nextField, behindNext, isByte, isName}
-use Rattle.felica_calls.specs.Number.{allDecimal, decimalFrom, readNumber}
-use Rattle.felica_calls.specs.Sizes.{maxLent, Lent, ifNumber, nextSize, readSizes}
-use Rattle.felica_calls.specs.Bytes.{allDigits, bytesOf, Decoded, decoded, readBytes, readLast}
-use Rattle.felica_calls.specs.Source.{readSource, behindSource, readCommandCode}
-use Rattle.felica_calls.specs.Write.{maxRoom, writeWith}
-use Rattle.felica_calls.specs.Call.{Called, called, withBytes, askedOf, parseOf, longOf, listWith, listOf, readCall, countOf}
+use Rattle.felica_calls.specs.Field.{field_of, behind_field, next_field, behind_next, is_byte, is_name}
+use Rattle.felica_calls.specs.Number.{all_decimal, decimal_from, read_number}
+use Rattle.felica_calls.specs.Sizes.{max_lent, Lent, if_number, next_size, read_sizes}
+use Rattle.felica_calls.specs.Bytes.{all_digits, bytes_of, Decoded, decoded, read_bytes, read_last}
+use Rattle.felica_calls.specs.Source.{read_source, behind_source, read_command_code}
+use Rattle.felica_calls.specs.Write.{max_room, write_with}
+use Rattle.felica_calls.specs.Call.{Called, called, with_bytes, asked_of, parse_of, long_of, list_with, list_of, read_call, count_of}
 use Rattle.felica_calls.specs.declared.fault.Fault.{Fault}
 use Rattle.felica_calls.specs.declared.fault.Fault.TheVariants.{EmptyLine}
 use Rattle.felica_calls.specs.declared.number.Number.{Number}
@@ -31,7 +31,7 @@ use Rattle.felica_calls.specs.declared.bytes.Bytes.{Bytes}
 use Rattle.felica_calls.specs.declared.bytes.Bytes.TheVariants.{Count, Wrong as WrongBytes}
 use Rattle.felica_calls.specs.declared.call.Call.{Call}
 use Rattle.felica_calls.specs.declared.call.Call.TheVariants.{Parse, Long, List as ListCall, Write, Wrong}
-use Rattle.felica_calls.proofs.Reading.{length-bytes}
+use Rattle.felica_calls.proofs.Reading.{length_bytes}
 
 -- what holds of both answers of a test
 either : {A : Type 0} (P : A → Type 0) (test : Bool) (a b : A) → P a → (test ≡ false → P b) → P (cond test a b)
@@ -40,62 +40,62 @@ either P false a b p q = q refl
 
 -- a length is at most that of the longest buffer
 abbrev Below : Number → Type 0
-Below (TheNumber n) = n ≤ maxLent
+Below (TheNumber n) = n ≤ max_lent
 Below (WrongNumber fault) = Unit
 
-number-below : (s : List ℕ) → Below (readNumber maxLent s)
-unfolding readNumber
-number-below s =
+number_below : (s : List ℕ) → Below (read_number max_lent s)
+unfolding read_number
+number_below s =
     either Below (eqb (length s) 0) _ _ tt λ a.
-    either Below (not (allDecimal s)) _ _ tt λ b.
-    either Below (ltb maxLent (decimalFrom 0 s)) _ _ tt λ c.
-    ltb-false maxLent (decimalFrom 0 s) c
+    either Below (not (all_decimal s)) _ _ tt λ b.
+    either Below (ltb max_lent (decimal_from 0 s)) _ _ tt λ c.
+    ltb-false max_lent (decimal_from 0 s) c
 
 -- so are the five lengths
 abbrev AllBelow : SizesRead → Type 0
 AllBelow (TheSizes z) = Lent z
 AllBelow (WrongSizes fault) = Unit
 
-if-below : (found : Number) (f : ℕ → SizesRead) → Below found → ((n : ℕ) → n ≤ maxLent → AllBelow (f n)) → AllBelow (ifNumber found f)
-if-below (TheNumber n) f h k = k n h
-if-below (WrongNumber fault) f h k = tt
+if_below : (found : Number) (f : ℕ → SizesRead) → Below found → ((n : ℕ) → n ≤ max_lent → AllBelow (f n)) → AllBelow (if_number found f)
+if_below (TheNumber n) f h k = k n h
+if_below (WrongNumber fault) f h k = tt
 
-next-below : (s : List ℕ) (f : ℕ → List ℕ → SizesRead) → ((n : ℕ) (rest : List ℕ) → n ≤ maxLent → AllBelow (f n rest)) → AllBelow (nextSize s f)
-unfolding nextSize
-next-below s f k = if-below (readNumber maxLent (nextField s)) _ (number-below (nextField s)) (λ n h. k n (behindNext s) h)
+next_below : (s : List ℕ) (f : ℕ → List ℕ → SizesRead) → ((n : ℕ) (rest : List ℕ) → n ≤ max_lent → AllBelow (f n rest)) → AllBelow (next_size s f)
+unfolding next_size
+next_below s f k = if_below (read_number max_lent (next_field s)) _ (number_below (next_field s)) (λ n h. k n (behind_next s) h)
 
-sizes-below : (s : List ℕ) → AllBelow (readSizes s)
-unfolding readSizes
-sizes-below s =
-    next-below _ _ λ first s₁ a.
-    next-below _ _ λ second s₂ b.
-    next-below _ _ λ numbers s₃ c.
-    next-below _ _ λ places s₄ d.
-    next-below _ _ λ modes s₅ e.
+sizes_below : (s : List ℕ) → AllBelow (read_sizes s)
+unfolding read_sizes
+sizes_below s =
+    next_below _ _ λ first s₁ a.
+    next_below _ _ λ second s₂ b.
+    next_below _ _ λ numbers s₃ c.
+    next_below _ _ λ places s₄ d.
+    next_below _ _ λ modes s₅ e.
     either AllBelow (eqb (length s₅) 0) _ _ (a, b, c, d, e) λ f. tt
 
-abbrev countIs : Bytes → ℕ
-countIs (Count n) = n
-countIs (WrongBytes fault) = 0
+abbrev count_is : Bytes → ℕ
+count_is (Count n) = n
+count_is (WrongBytes fault) = 0
 
 abbrev Fit : Decoded → Type 0
-Fit d = countIs d.answer ≤ length d.buffer
+Fit d = count_is d.answer ≤ length d.buffer
 
-bytes-fit : (s held : List ℕ) → Fit (readBytes s held)
-unfolding readBytes
-bytes-fit s held =
+bytes_fit : (s held : List ℕ) → Fit (read_bytes s held)
+unfolding read_bytes
+bytes_fit s held =
     either Fit (eqb (length s) 0) _ _ (zero-le) λ a.
-    either Fit (isByte 45 s) _ _ (zero-le) λ b.
-    either Fit (not (allDigits s)) _ _ (zero-le) λ c.
+    either Fit (is_byte 45 s) _ _ (zero-le) λ b.
+    either Fit (not (all_digits s)) _ _ (zero-le) λ c.
     either Fit (eqb (length s % 2) 1) _ _ (zero-le) λ d.
     either Fit (ltb (length held) (length s / 2)) _ _ (zero-le) λ e.
-    omega (arith, ltb-false (length held) (length s / 2) e, length-append (bytesOf s) (drop (length s / 2) held), length-bytes s, length-drop (length s / 2) held)
+    omega (arith, ltb-false (length held) (length s / 2) e, length-append (bytes_of s) (drop (length s / 2) held), length_bytes s, length-drop (length s / 2) held)
 
-last-fit : (s held : List ℕ) → Fit (readLast s held)
-unfolding readLast
-last-fit s held =
-    either Fit (ltb (length (nextField s)) (length (drop 1 s))) _ _ (zero-le) λ b.
-    bytes-fit (drop 1 s) held
+last_fit : (s held : List ℕ) → Fit (read_last s held)
+unfolding read_last
+last_fit s held =
+    either Fit (ltb (length (next_field s)) (length (drop 1 s))) _ _ (zero-le) λ b.
+    bytes_fit (drop 1 s) held
 
 abbrev pub CallLends : Call → Type 0
 CallLends (Parse source n) = Unit
@@ -105,57 +105,57 @@ CallLends (Write size c) = Unit
 CallLends (Wrong fault) = Unit
 
 record Fits (c : Called) : Type 0 where
-  count : countOf c.call ≤ length c.buffer
+  count : count_of c.call ≤ length c.buffer
   lends : CallLends c.call
 
-wrong-fits : (fault : Fault) (held : List ℕ) → Fits (called (Wrong fault) held)
-wrong-fits fault held = record { count = zero-le; lends = tt }
+wrong_fits : (fault : Fault) (held : List ℕ) → Fits (called (Wrong fault) held)
+wrong_fits fault held = record { count = zero-le; lends = tt }
 
-bytes-call : (make : ℕ → Call) → ((n : ℕ) → countOf (make n) ≡ n) → ((n : ℕ) → CallLends (make n)) → (answer : Bytes) (held : List ℕ) → Fit (decoded answer held)
-    → Fits (withBytes make (decoded answer held))
-bytes-call make same lends (Count n) held h = record { count = rw (same n) h; lends = lends n }
-bytes-call make same lends (WrongBytes fault) held h = wrong-fits fault held
+bytes_call : (make : ℕ → Call) → ((n : ℕ) → count_of (make n) ≡ n) → ((n : ℕ) → CallLends (make n)) → (answer : Bytes) (held : List ℕ) → Fit (decoded answer held)
+    → Fits (with_bytes make (decoded answer held))
+bytes_call make same lends (Count n) held h = record { count = rw (same n) h; lends = lends n }
+bytes_call make same lends (WrongBytes fault) held h = wrong_fits fault held
 
-parse-fits : (found : SourceRead) (s held : List ℕ) → Fits (askedOf parseOf found s held)
-parse-fits (TheSource source) s held =
-    let d = readLast (behindSource source s) held in
-    bytes-call (Parse source) (λ n. refl) (λ n. tt) d.answer d.buffer (last-fit (behindSource source s) held)
-parse-fits (WrongSource fault) s held = wrong-fits fault held
+parse_fits : (found : SourceRead) (s held : List ℕ) → Fits (asked_of parse_of found s held)
+parse_fits (TheSource source) s held =
+    let d = read_last (behind_source source s) held in
+    bytes_call (Parse source) (λ n. refl) (λ n. tt) d.answer d.buffer (last_fit (behind_source source s) held)
+parse_fits (WrongSource fault) s held = wrong_fits fault held
 
-long-fits : (found : SourceRead) (s held : List ℕ) → Fits (askedOf longOf found s held)
-long-fits (TheSource source) s held =
-    let d = readLast (behindSource source s) held in
-    bytes-call (Long source) (λ n. refl) (λ n. tt) d.answer d.buffer (last-fit (behindSource source s) held)
-long-fits (WrongSource fault) s held = wrong-fits fault held
+long_fits : (found : SourceRead) (s held : List ℕ) → Fits (asked_of long_of found s held)
+long_fits (TheSource source) s held =
+    let d = read_last (behind_source source s) held in
+    bytes_call (Long source) (λ n. refl) (λ n. tt) d.answer d.buffer (last_fit (behind_source source s) held)
+long_fits (WrongSource fault) s held = wrong_fits fault held
 
-sized-fits : (source : Source) (found : SizesRead) (s held : List ℕ) → AllBelow found → Fits (listWith source found s held)
-sized-fits source (TheSizes z) s held l =
-    let d = readBytes (nextField s) held in
-    bytes-call (λ n. ListCall source n z) (λ n. refl) (λ n. l) d.answer d.buffer (bytes-fit (nextField s) held)
-sized-fits source (WrongSizes fault) s held l = wrong-fits fault held
+sized_fits : (source : Source) (found : SizesRead) (s held : List ℕ) → AllBelow found → Fits (list_with source found s held)
+sized_fits source (TheSizes z) s held l =
+    let d = read_bytes (next_field s) held in
+    bytes_call (λ n. ListCall source n z) (λ n. refl) (λ n. l) d.answer d.buffer (bytes_fit (next_field s) held)
+sized_fits source (WrongSizes fault) s held l = wrong_fits fault held
 
-list-fits : (found : SourceRead) (s held : List ℕ) → Fits (askedOf listOf found s held)
-list-fits (TheSource source) s held =
-    sized-fits source (readSizes (behindNext (behindSource source s))) (behindSource source s) held (sizes-below (behindNext (behindSource source s)))
-list-fits (WrongSource fault) s held = wrong-fits fault held
+list_fits : (found : SourceRead) (s held : List ℕ) → Fits (asked_of list_of found s held)
+list_fits (TheSource source) s held =
+    sized_fits source (read_sizes (behind_next (behind_source source s))) (behind_source source s) held (sizes_below (behind_next (behind_source source s)))
+list_fits (WrongSource fault) s held = wrong_fits fault held
 
-write-fits : (size : Number) (found : Code) (held : List ℕ) → Fits (called (writeWith size found) held)
-write-fits (TheNumber size) (TheCode c) held = record { count = zero-le; lends = tt }
-write-fits (TheNumber size) (WrongCode fault) held = wrong-fits fault held
-write-fits (WrongNumber fault) found held = wrong-fits fault held
+write_fits : (size : Number) (found : Code) (held : List ℕ) → Fits (called (write_with size found) held)
+write_fits (TheNumber size) (TheCode c) held = record { count = zero-le; lends = tt }
+write_fits (TheNumber size) (WrongCode fault) held = wrong_fits fault held
+write_fits (WrongNumber fault) found held = wrong_fits fault held
 
-call-fits : (line held : List ℕ) → Fits (readCall line held)
-unfolding readCall
-call-fits line held =
-    either Fits (eqb (length line) 0) _ _ (wrong-fits EmptyLine held) λ a.
-    either Fits (isByte 76 (fieldOf line)) _ _ (list-fits (readSource (drop 1 (behindField line))) (drop 1 (behindField line)) held) λ b.
-    either Fits (isByte 87 (fieldOf line)) _ _ (write-fits (readNumber maxRoom (nextField (behindField line))) (readCommandCode (nextField (behindNext (behindField line)))) held) λ c.
-    either Fits (isName (text "LONG") (fieldOf line)) _ _ (long-fits (readSource (drop 1 (behindField line))) (drop 1 (behindField line)) held) λ d.
-    parse-fits (readSource line) line held
+call_fits : (line held : List ℕ) → Fits (read_call line held)
+unfolding read_call
+call_fits line held =
+    either Fits (eqb (length line) 0) _ _ (wrong_fits EmptyLine held) λ a.
+    either Fits (is_byte 76 (field_of line)) _ _ (list_fits (read_source (drop 1 (behind_field line))) (drop 1 (behind_field line)) held) λ b.
+    either Fits (is_byte 87 (field_of line)) _ _ (write_fits (read_number max_room (next_field (behind_field line))) (read_command_code (next_field (behind_next (behind_field line)))) held) λ c.
+    either Fits (is_name (text "LONG") (field_of line)) _ _ (long_fits (read_source (drop 1 (behind_field line))) (drop 1 (behind_field line)) held) λ d.
+    parse_fits (read_source line) line held
 
-module _ (line held : List ℕ) {call : Call} {m : List ℕ} (e : called call m ≡ readCall line held) where
-  pub count-within : countOf call ≤ length m
-  count-within = rw (ap (λ c. c.call) e, ap (λ c. c.buffer) e) (call-fits line held).count
+module _ (line held : List ℕ) {call : Call} {m : List ℕ} (e : called call m ≡ read_call line held) where
+  pub count_within : count_of call ≤ length m
+  count_within = rw (ap (λ c. c.call) e, ap (λ c. c.buffer) e) (call_fits line held).count
 
-  pub sizes-within : CallLends call
-  sizes-within = rw (ap (λ c. c.call) e) (call-fits line held).lends
+  pub sizes_within : CallLends call
+  sizes_within = rw (ap (λ c. c.call) e) (call_fits line held).lends

@@ -3,34 +3,34 @@
 use Rattle.std.specs.Prelude.{ℕ, ◌+◌, ◌*◌, ◌/◌, ◌%◌, Bool, true, false, not, cond, List, [], ◌∷◌, ◌++◌, length, drop, ltb, eqb}
 use Prim.Native.Char.{code}
 use Rattle.felica_format.specs.Basic.{◌and◌}
-use Rattle.felica_text.specs.Text.{digitOf}
+use Rattle.felica_text.specs.Text.{digit_of}
 use Rattle.felica_text.specs.declared.hex.Digit.{Digit}
 use Rattle.felica_text.specs.declared.hex.Digit.TheVariants.{Value, NoDigit}
-use Rattle.felica_calls.specs.Field.{nextField, isByte}
+use Rattle.felica_calls.specs.Field.{next_field, is_byte}
 use Rattle.felica_calls.specs.declared.fault.Fault.TheVariants.{MissingField, ExtraField, NoDigit as NotADigit, OddDigits, TooManyBytes}
 use Rattle.felica_calls.specs.declared.bytes.Bytes.{Bytes}
 use Rattle.felica_calls.specs.declared.bytes.Bytes.TheVariants.{Count, Wrong as WrongBytes}
 
 -- hexadecimal digits as bytes; what is no digit counts as 0
-abbrev pub isDigit : Digit → Bool
-isDigit (Value v) = true
-isDigit NoDigit = false
+abbrev pub is_digit : Digit → Bool
+is_digit (Value v) = true
+is_digit NoDigit = false
 
-abbrev pub valueOf : Digit → ℕ
-valueOf (Value v) = v
-valueOf NoDigit = 0
+abbrev pub value_of : Digit → ℕ
+value_of (Value v) = v
+value_of NoDigit = 0
 
-unfoldable pub allDigits : List ℕ → Bool
-allDigits [] = true
-allDigits (d ∷ ds) = isDigit (digitOf d) and allDigits ds
+unfoldable pub all_digits : List ℕ → Bool
+all_digits [] = true
+all_digits (d ∷ ds) = is_digit (digit_of d) and all_digits ds
 
-abbrev pub byteOf : ℕ → ℕ → ℕ
-byteOf high low = 16 * valueOf (digitOf high) + valueOf (digitOf low)
+abbrev pub byte_of : ℕ → ℕ → ℕ
+byte_of high low = 16 * value_of (digit_of high) + value_of (digit_of low)
 
-unfoldable pub bytesOf : List ℕ → List ℕ
-bytesOf [] = []
-bytesOf (d ∷ []) = []
-bytesOf (high ∷ low ∷ ds) = byteOf high low ∷ bytesOf ds
+unfoldable pub bytes_of : List ℕ → List ℕ
+bytes_of [] = []
+bytes_of (d ∷ []) = []
+bytes_of (high ∷ low ∷ ds) = byte_of high low ∷ bytes_of ds
 
 -- how many bytes there are, and what the lent buffer holds
 pub record Decoded : Type 0 where
@@ -41,15 +41,15 @@ abbrev pub decoded : Bytes → List ℕ → Decoded
 decoded answer buffer = record { answer = answer; buffer = buffer }
 
 -- `-` is no bytes
-unfoldable pub readBytes : List ℕ → List ℕ → Decoded
-readBytes s buffer =
+unfoldable pub read_bytes : List ℕ → List ℕ → Decoded
+read_bytes s buffer =
     cond (eqb (length s) 0) (decoded (WrongBytes MissingField) buffer)
-    (cond (isByte (code "-") s) (decoded (Count 0) buffer)
-    (cond (not (allDigits s)) (decoded (WrongBytes NotADigit) buffer)
+    (cond (is_byte (code "-") s) (decoded (Count 0) buffer)
+    (cond (not (all_digits s)) (decoded (WrongBytes NotADigit) buffer)
     (cond (eqb (length s % 2) 1) (decoded (WrongBytes OddDigits) buffer)
     (cond (ltb (length buffer) (length s / 2)) (decoded (WrongBytes TooManyBytes) buffer)
-    (decoded (Count (length s / 2)) (bytesOf s ++ drop (length s / 2) buffer))))))
+    (decoded (Count (length s / 2)) (bytes_of s ++ drop (length s / 2) buffer))))))
 
 -- the last field, with the space before it
-unfoldable pub readLast : List ℕ → List ℕ → Decoded
-readLast s buffer = cond (ltb (length (nextField s)) (length (drop 1 s))) (decoded (WrongBytes ExtraField) buffer) (readBytes (drop 1 s) buffer)
+unfoldable pub read_last : List ℕ → List ℕ → Decoded
+read_last s buffer = cond (ltb (length (next_field s)) (length (drop 1 s))) (decoded (WrongBytes ExtraField) buffer) (read_bytes (drop 1 s) buffer)

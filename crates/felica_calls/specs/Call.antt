@@ -3,11 +3,11 @@
 use Rattle.std.specs.Prelude.{ℕ, cond, List, length, drop, eqb}
 use Prim.Native.Char.{code}
 use Rattle.felica_text.specs.Text.{text}
-use Rattle.felica_calls.specs.Field.{fieldOf, behindField, nextField, behindNext, isByte, isName}
-use Rattle.felica_calls.specs.Bytes.{Decoded, readBytes, readLast}
-use Rattle.felica_calls.specs.Source.{readSource, behindSource}
-use Rattle.felica_calls.specs.Sizes.{readSizes}
-use Rattle.felica_calls.specs.Write.{writeOf}
+use Rattle.felica_calls.specs.Field.{field_of, behind_field, next_field, behind_next, is_byte, is_name}
+use Rattle.felica_calls.specs.Bytes.{Decoded, read_bytes, read_last}
+use Rattle.felica_calls.specs.Source.{read_source, behind_source}
+use Rattle.felica_calls.specs.Sizes.{read_sizes}
+use Rattle.felica_calls.specs.Write.{write_of}
 use Rattle.felica_calls.specs.declared.fault.Fault.TheVariants.{EmptyLine}
 use Rattle.felica_calls.specs.declared.bytes.Bytes.{Bytes}
 use Rattle.felica_calls.specs.declared.bytes.Bytes.TheVariants.{Count, Wrong as WrongBytes}
@@ -28,47 +28,47 @@ abbrev pub called : Call → List ℕ → Called
 called call buffer = record { call = call; buffer = buffer }
 
 -- the call for so many bytes, or what is wrong with them
-abbrev pub withBytes : (ℕ → Call) → Decoded → Called
-withBytes make d = called (callIs d.answer) d.buffer
+abbrev pub with_bytes : (ℕ → Call) → Decoded → Called
+with_bytes make d = called (call_is d.answer) d.buffer
   where
-    callIs : Bytes → Call
-    callIs (Count n) = make n
-    callIs (WrongBytes fault) = Wrong fault
+    call_is : Bytes → Call
+    call_is (Count n) = make n
+    call_is (WrongBytes fault) = Wrong fault
 
 -- what is asked of a source, by what follows it
-abbrev pub askedOf : (Source → List ℕ → List ℕ → Called) → SourceRead → List ℕ → List ℕ → Called
-askedOf ask (TheSource source) s buffer = ask source (behindSource source s) buffer
-askedOf ask (WrongSource fault) s buffer = called (Wrong fault) buffer
+abbrev pub asked_of : (Source → List ℕ → List ℕ → Called) → SourceRead → List ℕ → List ℕ → Called
+asked_of ask (TheSource source) s buffer = ask source (behind_source source s) buffer
+asked_of ask (WrongSource fault) s buffer = called (Wrong fault) buffer
 
 -- of the parser: the bytes are the last field
-abbrev pub parseOf : Source → List ℕ → List ℕ → Called
-parseOf source s buffer = withBytes (Parse source) (readLast s buffer)
+abbrev pub parse_of : Source → List ℕ → List ℕ → Called
+parse_of source s buffer = with_bytes (Parse source) (read_last s buffer)
 
 -- of how many elements were long: the call of the parser behind the name
-abbrev pub longOf : Source → List ℕ → List ℕ → Called
-longOf source s buffer = withBytes (Long source) (readLast s buffer)
+abbrev pub long_of : Source → List ℕ → List ℕ → Called
+long_of source s buffer = with_bytes (Long source) (read_last s buffer)
 
 -- of the list reader: the bytes, and behind them the lengths of its buffers, which are looked at first
-abbrev pub listWith : Source → SizesRead → List ℕ → List ℕ → Called
-listWith source (TheSizes z) s buffer = withBytes (λ n. ListCall source n z) (readBytes (nextField s) buffer)
-listWith source (WrongSizes fault) s buffer = called (Wrong fault) buffer
+abbrev pub list_with : Source → SizesRead → List ℕ → List ℕ → Called
+list_with source (TheSizes z) s buffer = with_bytes (λ n. ListCall source n z) (read_bytes (next_field s) buffer)
+list_with source (WrongSizes fault) s buffer = called (Wrong fault) buffer
 
-abbrev pub listOf : Source → List ℕ → List ℕ → Called
-listOf source s buffer = listWith source (readSizes (behindNext s)) s buffer
+abbrev pub list_of : Source → List ℕ → List ℕ → Called
+list_of source s buffer = list_with source (read_sizes (behind_next s)) s buffer
 
 -- a line, and what the buffer for the bytes holds before and after
-unfoldable pub readCall : List ℕ → List ℕ → Called
-readCall line buffer =
+unfoldable pub read_call : List ℕ → List ℕ → Called
+read_call line buffer =
     cond (eqb (length line) 0) (called (Wrong EmptyLine) buffer)
-    (cond (isByte (code "L") (fieldOf line)) (askedOf listOf (readSource (drop 1 (behindField line))) (drop 1 (behindField line)) buffer)
-    (cond (isByte (code "W") (fieldOf line)) (called (writeOf (behindField line)) buffer)
-    (cond (isName (text "LONG") (fieldOf line)) (askedOf longOf (readSource (drop 1 (behindField line))) (drop 1 (behindField line)) buffer)
-    (askedOf parseOf (readSource line) line buffer))))
+    (cond (is_byte (code "L") (field_of line)) (asked_of list_of (read_source (drop 1 (behind_field line))) (drop 1 (behind_field line)) buffer)
+    (cond (is_byte (code "W") (field_of line)) (called (write_of (behind_field line)) buffer)
+    (cond (is_name (text "LONG") (field_of line)) (asked_of long_of (read_source (drop 1 (behind_field line))) (drop 1 (behind_field line)) buffer)
+    (asked_of parse_of (read_source line) line buffer))))
 
 -- the bytes of a call
-abbrev pub countOf : Call → ℕ
-countOf (Parse source n) = n
-countOf (Long source n) = n
-countOf (ListCall source n z) = n
-countOf (Write size c) = 0
-countOf (Wrong fault) = 0
+abbrev pub count_of : Call → ℕ
+count_of (Parse source n) = n
+count_of (Long source n) = n
+count_of (ListCall source n z) = n
+count_of (Write size c) = 0
+count_of (Wrong fault) = 0

@@ -8,24 +8,24 @@ use Rattle.felica_calls.specs.declared.number.Number.{Number}
 use Rattle.felica_calls.specs.declared.number.Number.TheVariants.{Number as TheNumber, Wrong}
 
 -- 48 to 57 are the codes of 0 to 9
-unfoldable pub allDecimal : List ℕ → Bool
-allDecimal [] = true
-allDecimal (d ∷ ds) = (leb 48 d and leb d 57) and allDecimal ds
+unfoldable pub all_decimal : List ℕ → Bool
+all_decimal [] = true
+all_decimal (d ∷ ds) = (leb 48 d and leb d 57) and all_decimal ds
 
 -- the value of decimal digits that follow those of n
-unfoldable pub decimalFrom : ℕ → List ℕ → ℕ
-decimalFrom n [] = n
-decimalFrom n (d ∷ ds) = decimalFrom (10 * n + (d - 48)) ds
+unfoldable pub decimal_from : ℕ → List ℕ → ℕ
+decimal_from n [] = n
+decimal_from n (d ∷ ds) = decimal_from (10 * n + (d - 48)) ds
 
 -- a field as a length of at most `most`
-unfoldable pub readNumber : ℕ → List ℕ → Number
-readNumber most s =
+unfoldable pub read_number : ℕ → List ℕ → Number
+read_number most s =
     cond (eqb (length s) 0) (Wrong MissingField)
-    (cond (not (allDecimal s)) (Wrong NoNumber)
-    (cond (ltb most (decimalFrom 0 s)) (Wrong BufferTooLong)
-    (TheNumber (decimalFrom 0 s))))
+    (cond (not (all_decimal s)) (Wrong NoNumber)
+    (cond (ltb most (decimal_from 0 s)) (Wrong BufferTooLong)
+    (TheNumber (decimal_from 0 s))))
 
 -- what is wrong, where no number was read
-abbrev pub numberFault : Number → Fault
-numberFault (TheNumber n) = NoNumber
-numberFault (Wrong fault) = fault
+abbrev pub number_fault : Number → Fault
+number_fault (TheNumber n) = NoNumber
+number_fault (Wrong fault) = fault

@@ -1,8 +1,8 @@
 // The bytes of a call: hexadecimal digits, written to a lent buffer.
 ghost use Rattle.std.specs.Prelude.{◌≡◌};
-ghost use Rattle.felica_text.specs.Text.{digitOf};
+ghost use Rattle.felica_text.specs.Text.{digit_of};
 ghost use Rattle.felica_put.specs.Put.{buffer, put};
-ghost use Rattle.felica_calls.specs.Bytes.{decoded, readLast, readBytes, bytesOf, allDigits, byteOf, valueOf};
+ghost use Rattle.felica_calls.specs.Bytes.{decoded, read_last, read_bytes, bytes_of, all_digits, byte_of, value_of};
 
 use crate::fault::Fault;
 use crate::field::{behind_space, is_byte};
@@ -19,7 +19,7 @@ pub(crate) enum Bytes {
 
 // As the last field, with the space before it.
 pub(crate) fn read_last(rest: &[u8], bytes: &mut [u8]) -> Bytes
-    ensures { decoded result bytes.new ≡ readLast rest.now bytes.old }
+    ensures { decoded result bytes.new ≡ read_last rest.now bytes.old }
 {
     let field = behind_space(rest);
     if find(field, b' ') < field.len() {
@@ -29,7 +29,7 @@ pub(crate) fn read_last(rest: &[u8], bytes: &mut [u8]) -> Bytes
 }
 
 pub(crate) fn read_bytes(field: &[u8], bytes: &mut [u8]) -> Bytes
-    ensures { decoded result bytes.new ≡ readBytes field.now bytes.old }
+    ensures { decoded result bytes.new ≡ read_bytes field.now bytes.old }
 {
     if field.len() == 0 {
         return Bytes::Wrong(Fault::MissingField);
@@ -53,7 +53,7 @@ pub(crate) fn read_bytes(field: &[u8], bytes: &mut [u8]) -> Bytes
 
 // Pairs of digits as bytes, as many as there is room for.
 pub fn decode(field: &[u8], bytes: &mut [u8]) -> usize
-    ensures { buffer bytes.new result ≡ put (buffer bytes.old 0) (bytesOf field.now) }
+    ensures { buffer bytes.new result ≡ put (buffer bytes.old 0) (bytes_of field.now) }
 {
     let count = field.len() / 2;
     let mut next = 0;
@@ -66,7 +66,7 @@ pub fn decode(field: &[u8], bytes: &mut [u8]) -> usize
 }
 
 pub fn all_digits(field: &[u8]) -> bool
-    ensures { result ≡ allDigits field.now }
+    ensures { result ≡ all_digits field.now }
 {
     let mut i = 0;
     while i < field.len() {
@@ -80,14 +80,14 @@ pub fn all_digits(field: &[u8]) -> bool
 }
 
 pub(crate) fn byte_of(high: u8, low: u8) -> u8
-    ensures { result ≡ byteOf high low }
+    ensures { result ≡ byte_of high low }
 {
     16 * value_of(high) + value_of(low)
 }
 
 // A digit's value; what is no digit counts as 0.
 pub fn value_of(digit: u8) -> u8
-    ensures { result ≡ valueOf (digitOf digit) }
+    ensures { result ≡ value_of (digit_of digit) }
 {
     let value = digit_value(digit);
     match value {

@@ -1,9 +1,9 @@
 // A line as a call: a name, then fields, each behind one space. The bytes of a call go to a lent buffer.
 ghost use Rattle.std.specs.Prelude.{◌≡◌};
-ghost use Rattle.felica_calls.specs.Source.{readSource};
-ghost use Rattle.felica_calls.specs.Field.{nextField};
-ghost use Rattle.felica_calls.specs.Bytes.{readBytes};
-ghost use Rattle.felica_calls.specs.Call.{called, readCall, askedOf, parseOf, longOf, listOf, withBytes};
+ghost use Rattle.felica_calls.specs.Source.{read_source};
+ghost use Rattle.felica_calls.specs.Field.{next_field};
+ghost use Rattle.felica_calls.specs.Bytes.{read_bytes};
+ghost use Rattle.felica_calls.specs.Call.{called, read_call, asked_of, parse_of, long_of, list_of, with_bytes};
 
 use crate::bytes::{Bytes, read_bytes, read_last};
 use crate::fault::Fault;
@@ -29,7 +29,7 @@ pub enum Call {
 }
 
 pub fn read_call(line: &[u8], bytes: &mut [u8]) -> Call
-    ensures { called result bytes.new ≡ readCall line.now bytes.old }
+    ensures { called result bytes.new ≡ read_call line.now bytes.old }
 {
     if line.len() == 0 {
         return Call::Wrong(Fault::EmptyLine);
@@ -49,7 +49,7 @@ pub fn read_call(line: &[u8], bytes: &mut [u8]) -> Call
 
 // A call of the parser.
 fn read_parse(text: &[u8], bytes: &mut [u8]) -> Call
-    ensures { called result bytes.new ≡ askedOf parseOf (readSource text.now) text.now bytes.old }
+    ensures { called result bytes.new ≡ asked_of parse_of (read_source text.now) text.now bytes.old }
 {
     let found = read_source(text);
     match found {
@@ -59,7 +59,7 @@ fn read_parse(text: &[u8], bytes: &mut [u8]) -> Call
 }
 
 fn parse_last(source: Source, rest: &[u8], bytes: &mut [u8]) -> Call
-    ensures { called result bytes.new ≡ parseOf source rest.now bytes.old }
+    ensures { called result bytes.new ≡ parse_of source rest.now bytes.old }
 {
     let read = read_last(rest, bytes);
     match read {
@@ -70,7 +70,7 @@ fn parse_last(source: Source, rest: &[u8], bytes: &mut [u8]) -> Call
 
 // A call of the parser behind the name.
 fn read_long(text: &[u8], bytes: &mut [u8]) -> Call
-    ensures { called result bytes.new ≡ askedOf longOf (readSource text.now) text.now bytes.old }
+    ensures { called result bytes.new ≡ asked_of long_of (read_source text.now) text.now bytes.old }
 {
     let found = read_source(text);
     match found {
@@ -80,7 +80,7 @@ fn read_long(text: &[u8], bytes: &mut [u8]) -> Call
 }
 
 fn long_last(source: Source, rest: &[u8], bytes: &mut [u8]) -> Call
-    ensures { called result bytes.new ≡ longOf source rest.now bytes.old }
+    ensures { called result bytes.new ≡ long_of source rest.now bytes.old }
 {
     let read = read_last(rest, bytes);
     match read {
@@ -91,7 +91,7 @@ fn long_last(source: Source, rest: &[u8], bytes: &mut [u8]) -> Call
 
 // A call of the parser, then the lengths of the buffers for its lists.
 fn read_list(text: &[u8], bytes: &mut [u8]) -> Call
-    ensures { called result bytes.new ≡ askedOf listOf (readSource text.now) text.now bytes.old }
+    ensures { called result bytes.new ≡ asked_of list_of (read_source text.now) text.now bytes.old }
 {
     let found = read_source(text);
     match found {
@@ -102,7 +102,7 @@ fn read_list(text: &[u8], bytes: &mut [u8]) -> Call
 
 // No byte is read before the lengths are seen to be right.
 fn list_behind(source: Source, rest: &[u8], bytes: &mut [u8]) -> Call
-    ensures { called result bytes.new ≡ listOf source rest.now bytes.old }
+    ensures { called result bytes.new ≡ list_of source rest.now bytes.old }
 {
     let found = read_sizes(behind_next(rest));
     match found {
@@ -112,7 +112,7 @@ fn list_behind(source: Source, rest: &[u8], bytes: &mut [u8]) -> Call
 }
 
 fn list_next(source: Source, sizes: Sizes, rest: &[u8], bytes: &mut [u8]) -> Call
-    ensures { called result bytes.new ≡ withBytes (λ n. Call.List source n sizes) (readBytes (nextField rest.now) bytes.old) }
+    ensures { called result bytes.new ≡ with_bytes (λ n. Call.List source n sizes) (read_bytes (next_field rest.now) bytes.old) }
 {
     let read = read_bytes(next_field(rest), bytes);
     match read {

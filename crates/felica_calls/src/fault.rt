@@ -1,7 +1,7 @@
 // What can be wrong with a call, and the line that says it.
 ghost use Rattle.std.specs.Prelude.{◌≡◌};
 ghost use Rattle.felica_put.specs.Put.{buffer, put};
-ghost use Rattle.felica_calls.specs.Fault.{faultText};
+ghost use Rattle.felica_calls.specs.Fault.{fault_text};
 
 use felica_put::put_bytes;
 
@@ -25,7 +25,7 @@ pub enum Fault {
 }
 
 pub fn put_fault(out: &mut [u8], at: usize, fault: Fault) -> usize
-    ensures { buffer out.new result ≡ put (buffer out.old at) (faultText fault) }
+    ensures { buffer out.new result ≡ put (buffer out.old at) (fault_text fault) }
 {
     let next = put_bytes(out, at, b"BAD CALL: ");
     match fault {

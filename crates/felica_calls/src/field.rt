@@ -1,12 +1,12 @@
 // The fields of a line, each behind one space.
 ghost use Rattle.std.specs.Prelude.{◌≡◌, drop};
-ghost use Rattle.felica_calls.specs.Field.{fieldOf, behindField, nextField, behindNext, isByte, isName};
+ghost use Rattle.felica_calls.specs.Field.{field_of, behind_field, next_field, behind_next, is_byte, is_name};
 
 use felica_text::find::find;
 
 // The first field.
 pub fn field_of(text: &[u8]) -> &[u8]
-    ensures { result.now ≡ fieldOf text.now }
+    ensures { result.now ≡ field_of text.now }
 {
     let end = find(text, b' ');
     &text[..end]
@@ -14,7 +14,7 @@ pub fn field_of(text: &[u8]) -> &[u8]
 
 // What follows the first field: nothing, or a space and the next field.
 pub(crate) fn behind_field(text: &[u8]) -> &[u8]
-    ensures { result.now ≡ behindField text.now }
+    ensures { result.now ≡ behind_field text.now }
 {
     let end = find(text, b' ');
     &text[end..]
@@ -31,20 +31,20 @@ pub(crate) fn behind_space(text: &[u8]) -> &[u8]
 
 // The field behind a space.
 pub(crate) fn next_field(rest: &[u8]) -> &[u8]
-    ensures { result.now ≡ nextField rest.now }
+    ensures { result.now ≡ next_field rest.now }
 {
     field_of(behind_space(rest))
 }
 
 pub(crate) fn behind_next(rest: &[u8]) -> &[u8]
-    ensures { result.now ≡ behindNext rest.now }
+    ensures { result.now ≡ behind_next rest.now }
 {
     behind_field(behind_space(rest))
 }
 
 // Whether a field is this one byte.
 pub fn is_byte(field: &[u8], byte: u8) -> bool
-    ensures { result ≡ isByte byte field.now }
+    ensures { result ≡ is_byte byte field.now }
 {
     if field.len() != 1 {
         return false;
@@ -54,7 +54,7 @@ pub fn is_byte(field: &[u8], byte: u8) -> bool
 
 // Whether a field is this name.
 pub(crate) fn is_name(field: &[u8], name: &[u8]) -> bool
-    ensures { result ≡ isName name.now field.now }
+    ensures { result ≡ is_name name.now field.now }
 {
     if field.len() != name.len() {
         return false;

@@ -1,6 +1,6 @@
 // Decimal numbers.
 ghost use Rattle.std.specs.Prelude.{◌≡◌};
-ghost use Rattle.felica_calls.specs.Number.{allDecimal, numberFault, readNumber};
+ghost use Rattle.felica_calls.specs.Number.{all_decimal, number_fault, read_number};
 
 use crate::fault::Fault;
 
@@ -13,7 +13,7 @@ pub(crate) enum Number {
 impl Number {
     // What is wrong, where no number was read.
     pub(crate) fn fault(self) -> Fault
-        ensures { result ≡ numberFault self }
+        ensures { result ≡ number_fault self }
     {
         match self {
             Number::Number(_) => Fault::NoNumber,
@@ -24,7 +24,7 @@ impl Number {
 
 // A field as a length of at most `most`. Digits are added up only until they pass it, so that no sum overflows.
 pub(crate) fn read_number(field: &[u8], most: usize) -> Number
-    ensures { result ≡ readNumber most field.now }
+    ensures { result ≡ read_number most field.now }
 {
     if field.len() == 0 {
         return Number::Wrong(Fault::MissingField);
@@ -50,7 +50,7 @@ pub(crate) fn read_number(field: &[u8], most: usize) -> Number
 }
 
 fn all_decimal(field: &[u8]) -> bool
-    ensures { result ≡ allDecimal field.now }
+    ensures { result ≡ all_decimal field.now }
 {
     let mut i = 0;
     while i < field.len() {

@@ -1,8 +1,8 @@
 // The lengths behind a call of the list reader.
 ghost use Rattle.std.specs.Prelude.{◌≡◌};
-ghost use Rattle.felica_calls.specs.Field.{nextField};
-ghost use Rattle.felica_calls.specs.Number.{readNumber};
-ghost use Rattle.felica_calls.specs.Sizes.{maxLent, readSizes};
+ghost use Rattle.felica_calls.specs.Field.{next_field};
+ghost use Rattle.felica_calls.specs.Number.{read_number};
+ghost use Rattle.felica_calls.specs.Sizes.{max_lent, read_sizes};
 
 use crate::fault::Fault;
 use crate::field::{behind_next, next_field};
@@ -29,7 +29,7 @@ pub(crate) enum SizesRead {
 
 // Five lengths, each behind a space, and nothing behind them.
 pub(crate) fn read_sizes(text: &[u8]) -> SizesRead
-    ensures { result ≡ readSizes text.now }
+    ensures { result ≡ read_sizes text.now }
 {
     let size = read_size(text);
     let Number::Number(first) = size else {
@@ -68,7 +68,7 @@ pub(crate) fn read_sizes(text: &[u8]) -> SizesRead
 }
 
 fn read_size(rest: &[u8]) -> Number
-    ensures { result ≡ readNumber maxLent (nextField rest.now) }
+    ensures { result ≡ read_number max_lent (next_field rest.now) }
 {
     read_number(next_field(rest), MAX_LENT)
 }

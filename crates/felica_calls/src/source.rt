@@ -1,7 +1,7 @@
 // What the bytes of a call are, by its name and, of a secure payload, the command code behind that.
 ghost use Rattle.std.specs.Prelude.{◌≡◌};
-ghost use Rattle.felica_calls.specs.Field.{nextField};
-ghost use Rattle.felica_calls.specs.Source.{readSource, behindSource, secureSource, readCommandCode};
+ghost use Rattle.felica_calls.specs.Field.{next_field};
+ghost use Rattle.felica_calls.specs.Source.{read_source, behind_source, secure_source, read_command_code};
 
 use crate::bytes::{all_digits, byte_of};
 use crate::fault::Fault;
@@ -28,7 +28,7 @@ pub(crate) enum Code {
 }
 
 pub(crate) fn read_source(text: &[u8]) -> SourceRead
-    ensures { result ≡ readSource text.now }
+    ensures { result ≡ read_source text.now }
 {
     if text.len() == 0 {
         return SourceRead::Wrong(Fault::MissingField);
@@ -47,7 +47,7 @@ pub(crate) fn read_source(text: &[u8]) -> SourceRead
 }
 
 fn read_secure(rest: &[u8]) -> SourceRead
-    ensures { result ≡ secureSource (readCommandCode (nextField rest.now)) }
+    ensures { result ≡ secure_source (read_command_code (next_field rest.now)) }
 {
     let found = read_code(next_field(rest));
     match found {
@@ -58,7 +58,7 @@ fn read_secure(rest: &[u8]) -> SourceRead
 
 // A command code in its two digits.
 pub(crate) fn read_code(field: &[u8]) -> Code
-    ensures { result ≡ readCommandCode field.now }
+    ensures { result ≡ read_command_code field.now }
 {
     if field.len() == 0 {
         return Code::Wrong(Fault::MissingField);
@@ -75,7 +75,7 @@ pub(crate) fn read_code(field: &[u8]) -> Code
 
 // What follows the name, and the code of a secure payload.
 pub(crate) fn behind_source(text: &[u8], source: Source) -> &[u8]
-    ensures { result.now ≡ behindSource source text.now }
+    ensures { result.now ≡ behind_source source text.now }
 {
     match source {
         Source::Frame => behind_field(text),

@@ -1,6 +1,6 @@
 // A call of the writer: the size of its buffer, a command code, and the fields of the command.
 ghost use Rattle.std.specs.Prelude.{◌≡◌};
-ghost use Rattle.felica_calls.specs.Write.{writeOf, behindCode};
+ghost use Rattle.felica_calls.specs.Write.{write_of, behind_code};
 
 use crate::call::Call;
 use crate::field::{behind_field, behind_next, next_field};
@@ -11,7 +11,7 @@ use crate::source::{Code, read_code};
 pub const MAX_ROOM: usize = 16384;
 
 pub(crate) fn read_write(rest: &[u8]) -> Call
-    ensures { result ≡ writeOf rest.now }
+    ensures { result ≡ write_of rest.now }
 {
     let size = read_number(next_field(rest), MAX_ROOM);
     let Number::Number(room) = size else {
@@ -26,7 +26,7 @@ pub(crate) fn read_write(rest: &[u8]) -> Call
 
 // What follows the command code.
 pub fn behind_code(line: &[u8]) -> &[u8]
-    ensures { result.now ≡ behindCode line.now }
+    ensures { result.now ≡ behind_code line.now }
 {
     behind_next(behind_next(behind_field(line)))
 }

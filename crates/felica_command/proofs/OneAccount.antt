@@ -8,9 +8,9 @@ use mathlib.Core.List.{List}
 use lib.Dec.{eqb}
 use Rattle.felica_format.specs.Command.{Command}
 use Rattle.felica_format.specs.Read.{gives}
-use Rattle.felica_command.specs.Types.{propertyOf, propertyIndex}
-use Rattle.felica_command.specs.Meaning.{Fields, fieldsOf, commandIs, refusalIs, answerIs, CanonicalAnswer}
-use Rattle.felica_command.specs.Places.{Places, placesIn, answerPlaces, OneAccount}
+use Rattle.felica_command.specs.Types.{property_of, property_index}
+use Rattle.felica_command.specs.Meaning.{Fields, fields_of, command_is, refusal_is, answer_is, CanonicalAnswer}
+use Rattle.felica_command.specs.Places.{Places, places_in, answer_places, OneAccount}
 use Rattle.felica_command.specs.declared.types.NodePropertyType.{NodePropertyType}
 use Rattle.felica_command.specs.declared.types.NodePropertyType.TheVariants.{ValueLimitedPurseService, MacCommunication}
 use Rattle.felica_command.specs.declared.types.SetParameterEncryptionType.{SetParameterEncryptionType}
@@ -37,29 +37,29 @@ use Rattle.felica_command.specs.declared.command.Answer.TheVariants.{Command as 
 use Rattle.felica_command.specs.declared.command.Parsed.{Parsed}
 
 -- the kind that has these fields
-kindWith : ℕ → ℕ → Places → ℕ → ℕ → ℕ → ℕ → FelicaStandardCommand
-kindWith code selector at number index option choice =
+kind_with : ℕ → ℕ → Places → ℕ → ℕ → ℕ → ℕ → FelicaStandardCommand
+kind_with code selector at number index option choice =
     cond (eqb code 0x00) (Polling number option choice) (
     cond (eqb code 0x02) (RequestService at.first) (
     cond (eqb code 0x04) (RequestResponse) (
     cond (eqb code 0x06) (ReadWithoutEncryption at.first at.elements) (
-    cond (eqb code 0x08) (WriteWithoutEncryption at.first at.elements at.blockData) (
+    cond (eqb code 0x08) (WriteWithoutEncryption at.first at.elements at.block_data) (
     cond (eqb code 0x0A) (SearchServiceCode number) (
     cond (eqb code 0x0C) (RequestSystemCode) (
     cond (eqb code 0x0E) (RequestBlockInformation at.first) (
     cond (eqb code 0x10) (Authentication1 at.first at.second) (
     cond (eqb code 0x12) (Authentication2) (
     cond (eqb code 0x14) (Read at.elements) (
-    cond (eqb code 0x16) (Write at.elements at.blockData) (
+    cond (eqb code 0x16) (Write at.elements at.block_data) (
     cond (eqb code 0x44) (ReadV2 at.elements) (
-    cond (eqb code 0x46) (WriteV2 at.elements at.blockData) (
+    cond (eqb code 0x46) (WriteV2 at.elements at.block_data) (
     cond (eqb code 0x1A) (RequestCodeList (record { 0 = number }) index) (
     cond (eqb code 0x1E) (RequestBlockInformationEx at.first) (
     cond (eqb code 0x20) (SetParameter (cond (eqb option 0) SrmType1 SrmType2) (cond (eqb choice 0) NodeCodeSize2 NodeCodeSize4)) (
     cond (eqb code 0x22) (GetContainerIssueInformation) (
     cond (eqb code 0x24) (GetAreaInformation (record { 0 = number })) (
     cond (eqb code 0x28) (GetNodeProperty (cond (eqb selector 0) ValueLimitedPurseService MacCommunication) at.first) (
-    cond (eqb code 0x2E) (GetContainerProperty (propertyOf number)) (
+    cond (eqb code 0x2E) (GetContainerProperty (property_of number)) (
     cond (eqb code 0x32) (RequestServiceV2 at.first) (
     cond (eqb code 0x38) (GetSystemStatus) (
     cond (eqb code 0x3A) (RequestProductInformation) (
@@ -68,106 +68,106 @@ kindWith code selector at number index option choice =
     cond (eqb code 0x40) (Authentication1V2 selector at.first) (
     cond (eqb code 0x42) (Authentication2V2) (
     cond (eqb code 0x70) (GetContainerId) (
-    cond (eqb code 0x80) (RegisterIssueId at.issuePackage) (
-    cond (eqb code 0x82) (RegisterArea (record { 0 = number }) at.issuePackage) (
-    cond (eqb code 0x84) (RegisterService (record { 0 = number }) at.issuePackage) (
+    cond (eqb code 0x80) (RegisterIssueId at.issue_package) (
+    cond (eqb code 0x82) (RegisterArea (record { 0 = number }) at.issue_package) (
+    cond (eqb code 0x84) (RegisterService (record { 0 = number }) at.issue_package) (
     ChangeSystemBlock))))))))))))))))))))))))))))))))
 
-kindOf : Fields → FelicaStandardCommand
-kindOf f = kindWith f.code f.selector (placesIn f) f.number f.index f.option f.choice
+kind_of : Fields → FelicaStandardCommand
+kind_of f = kind_with f.code f.selector (places_in f) f.number f.index f.option f.choice
 
-kind-same : {code code' selector selector' : ℕ} {at at' : Places} {number number' index index' option option' choice choice' : ℕ} → code ≡ code'
+kind_same : {code code' selector selector' : ℕ} {at at' : Places} {number number' index index' option option' choice choice' : ℕ} → code ≡ code'
     → selector ≡ selector' → at ≡ at' → number ≡ number' → index ≡ index' → option ≡ option' → choice ≡ choice'
-    → kindWith code selector at number index option choice ≡ kindWith code' selector' at' number' index' option' choice'
-kind-same a b c d e f g = rw (a, b, c, d, e, f, g)
+    → kind_with code selector at number index option choice ≡ kind_with code' selector' at' number' index' option' choice'
+kind_same a b c d e f g = rw (a, b, c, d, e, f, g)
 
-set-back : (a : SetParameterEncryptionType) (b : SetParameterPacketType) → kindOf (fieldsOf (SetParameter a b)) ≡ SetParameter a b
-unfolding kindOf kindWith
-set-back SrmType1 NodeCodeSize2 = refl
-set-back SrmType1 NodeCodeSize4 = refl
-set-back SrmType2 NodeCodeSize2 = refl
-set-back SrmType2 NodeCodeSize4 = refl
+set_back : (a : SetParameterEncryptionType) (b : SetParameterPacketType) → kind_of (fields_of (SetParameter a b)) ≡ SetParameter a b
+unfolding kind_of kind_with
+set_back SrmType1 NodeCodeSize2 = refl
+set_back SrmType1 NodeCodeSize4 = refl
+set_back SrmType2 NodeCodeSize2 = refl
+set_back SrmType2 NodeCodeSize4 = refl
 
-node-back : (a : NodePropertyType) (b : Part) → kindOf (fieldsOf (GetNodeProperty a b)) ≡ GetNodeProperty a b
-unfolding kindOf kindWith
-node-back ValueLimitedPurseService b = refl
-node-back MacCommunication b = refl
+node_back : (a : NodePropertyType) (b : Part) → kind_of (fields_of (GetNodeProperty a b)) ≡ GetNodeProperty a b
+unfolding kind_of kind_with
+node_back ValueLimitedPurseService b = refl
+node_back MacCommunication b = refl
 
-kind-back : (k : FelicaStandardCommand) → (fieldsOf k).property ≡ propertyOf (propertyIndex (fieldsOf k).property) → kindOf (fieldsOf k) ≡ k
-unfolding kindOf kindWith
-kind-back (Polling a b c) h = refl
-kind-back (RequestService a) h = refl
-kind-back RequestResponse h = refl
-kind-back (ReadWithoutEncryption a b) h = refl
-kind-back (WriteWithoutEncryption a b c) h = refl
-kind-back (SearchServiceCode a) h = refl
-kind-back RequestSystemCode h = refl
-kind-back (RequestBlockInformation a) h = refl
-kind-back (Authentication1 a b) h = refl
-kind-back Authentication2 h = refl
-kind-back (Read a) h = refl
-kind-back (Write a b) h = refl
-kind-back (ReadV2 a) h = refl
-kind-back (WriteV2 a b) h = refl
-kind-back (RequestCodeList a b) h = refl
-kind-back (RequestBlockInformationEx a) h = refl
-kind-back (SetParameter a b) h = set-back a b
-kind-back GetContainerIssueInformation h = refl
-kind-back (GetAreaInformation a) h = refl
-kind-back (GetNodeProperty a b) h = node-back a b
-kind-back (GetContainerProperty a) h = ap GetContainerProperty (sym h)
-kind-back (RequestServiceV2 a) h = refl
-kind-back GetSystemStatus h = refl
-kind-back RequestProductInformation h = refl
-kind-back RequestSpecificationVersion h = refl
-kind-back ResetMode h = refl
-kind-back (Authentication1V2 a b) h = refl
-kind-back Authentication2V2 h = refl
-kind-back GetContainerId h = refl
-kind-back (RegisterIssueId a) h = refl
-kind-back (RegisterArea a b) h = refl
-kind-back (RegisterService a b) h = refl
-kind-back ChangeSystemBlock h = refl
+kind_back : (k : FelicaStandardCommand) → (fields_of k).property ≡ property_of (property_index (fields_of k).property) → kind_of (fields_of k) ≡ k
+unfolding kind_of kind_with
+kind_back (Polling a b c) h = refl
+kind_back (RequestService a) h = refl
+kind_back RequestResponse h = refl
+kind_back (ReadWithoutEncryption a b) h = refl
+kind_back (WriteWithoutEncryption a b c) h = refl
+kind_back (SearchServiceCode a) h = refl
+kind_back RequestSystemCode h = refl
+kind_back (RequestBlockInformation a) h = refl
+kind_back (Authentication1 a b) h = refl
+kind_back Authentication2 h = refl
+kind_back (Read a) h = refl
+kind_back (Write a b) h = refl
+kind_back (ReadV2 a) h = refl
+kind_back (WriteV2 a b) h = refl
+kind_back (RequestCodeList a b) h = refl
+kind_back (RequestBlockInformationEx a) h = refl
+kind_back (SetParameter a b) h = set_back a b
+kind_back GetContainerIssueInformation h = refl
+kind_back (GetAreaInformation a) h = refl
+kind_back (GetNodeProperty a b) h = node_back a b
+kind_back (GetContainerProperty a) h = ap GetContainerProperty (sym h)
+kind_back (RequestServiceV2 a) h = refl
+kind_back GetSystemStatus h = refl
+kind_back RequestProductInformation h = refl
+kind_back RequestSpecificationVersion h = refl
+kind_back ResetMode h = refl
+kind_back (Authentication1V2 a b) h = refl
+kind_back Authentication2V2 h = refl
+kind_back GetContainerId h = refl
+kind_back (RegisterIssueId a) h = refl
+kind_back (RegisterArea a b) h = refl
+kind_back (RegisterService a b) h = refl
+kind_back ChangeSystemBlock h = refl
 
 abbrev parsed : Answer → List ℕ → List ℕ → ℕ → Parsed
 parsed a idm challenge long = record { answer = a; idm = idm; challenge = challenge; long = long }
 
-parsed-same : {a a' : Answer} {idm idm' challenge challenge' : List ℕ} {long long' : ℕ} → a ≡ a' → idm ≡ idm' → challenge ≡ challenge' → long ≡ long'
+parsed_same : {a a' : Answer} {idm idm' challenge challenge' : List ℕ} {long long' : ℕ} → a ≡ a' → idm ≡ idm' → challenge ≡ challenge' → long ≡ long'
     → parsed a idm challenge long ≡ parsed a' idm' challenge' long'
-parsed-same p q r u = rw (p, q, r, u)
+parsed_same p q r u = rw (p, q, r, u)
 
-commands-one : (s idm idm' challenge challenge' : List ℕ) (long long' : ℕ) → long ≡ long' → (k k' : FelicaStandardCommand)
-    → commandIs s idm challenge (fieldsOf k) ≡ commandIs s idm' challenge' (fieldsOf k') → placesIn (fieldsOf k) ≡ placesIn (fieldsOf k')
-    → (fieldsOf k).property ≡ propertyOf (propertyIndex (fieldsOf k).property) → (fieldsOf k').property ≡ propertyOf (propertyIndex (fieldsOf k').property)
+commands_one : (s idm idm' challenge challenge' : List ℕ) (long long' : ℕ) → long ≡ long' → (k k' : FelicaStandardCommand)
+    → command_is s idm challenge (fields_of k) ≡ command_is s idm' challenge' (fields_of k') → places_in (fields_of k) ≡ places_in (fields_of k')
+    → (fields_of k).property ≡ property_of (property_index (fields_of k).property) → (fields_of k').property ≡ property_of (property_index (fields_of k').property)
     → parsed (AnswerCommand k) idm challenge long ≡ parsed (AnswerCommand k') idm' challenge' long'
-unfolding kindOf
-commands-one s idm idm' challenge challenge' long long' count k k' e at h h' =
-    let same = kind-same (ap (λ (c : Command). c.code) e) (ap (λ (c : Command). c.selector) e) at (ap (λ (c : Command). c.number) e)
+unfolding kind_of
+commands_one s idm idm' challenge challenge' long long' count k k' e at h h' =
+    let same = kind_same (ap (λ (c : Command). c.code) e) (ap (λ (c : Command). c.selector) e) at (ap (λ (c : Command). c.number) e)
     (ap (λ (c : Command). c.index) e) (ap (λ (c : Command). c.option) e) (ap (λ (c : Command). c.choice) e) in
-    parsed-same (ap AnswerCommand (sym (kind-back k h) ∙ same ∙ kind-back k' h')) (ap (λ (c : Command). c.idm) e) (ap (λ (c : Command). c.challenge) e) count
+    parsed_same (ap AnswerCommand (sym (kind_back k h) ∙ same ∙ kind_back k' h')) (ap (λ (c : Command). c.idm) e) (ap (λ (c : Command). c.challenge) e) count
 
-refusals-one : (w w' : Refusal) → refusalIs w ≡ refusalIs w' → w ≡ w'
-refusals-one (Number n) (Number m) e = cc
-refusals-one (Number n) (OfCommand m code) e = let z : ◌≡◌ {A = ℕ} 0 1 = cc in absurd (omega arith)
-refusals-one (OfCommand n code) (Number m) e = let z : ◌≡◌ {A = ℕ} 0 1 = cc in absurd (omega arith)
-refusals-one (OfCommand n code) (OfCommand m code') e = cc
+refusals_one : (w w' : Refusal) → refusal_is w ≡ refusal_is w' → w ≡ w'
+refusals_one (Number n) (Number m) e = cc
+refusals_one (Number n) (OfCommand m code) e = let z : ◌≡◌ {A = ℕ} 0 1 = cc in absurd (omega arith)
+refusals_one (OfCommand n code) (Number m) e = let z : ◌≡◌ {A = ℕ} 0 1 = cc in absurd (omega arith)
+refusals_one (OfCommand n code) (OfCommand m code') e = cc
 
-no-refusal : (c : Command) (long : ℕ) (w : Refusal) → gives c long ≡ refusalIs w → ⊥
-no-refusal c long (Number n) e = let z : ◌≡◌ {A = ℕ} 0 1 = cc in omega arith
-no-refusal c long (OfCommand n code) e = let z : ◌≡◌ {A = ℕ} 0 1 = cc in omega arith
+no_refusal : (c : Command) (long : ℕ) (w : Refusal) → gives c long ≡ refusal_is w → ⊥
+no_refusal c long (Number n) e = let z : ◌≡◌ {A = ℕ} 0 1 = cc in omega arith
+no_refusal c long (OfCommand n code) e = let z : ◌≡◌ {A = ℕ} 0 1 = cc in omega arith
 
-answers-one : (s idm idm' challenge challenge' : List ℕ) (long long' : ℕ) (a a' : Answer) → answerIs s idm challenge long a ≡ answerIs s idm' challenge' long' a'
-    → answerPlaces a ≡ answerPlaces a' → CanonicalAnswer idm challenge long a → CanonicalAnswer idm' challenge' long' a'
+answers_one : (s idm idm' challenge challenge' : List ℕ) (long long' : ℕ) (a a' : Answer) → answer_is s idm challenge long a ≡ answer_is s idm' challenge' long' a'
+    → answer_places a ≡ answer_places a' → CanonicalAnswer idm challenge long a → CanonicalAnswer idm' challenge' long' a'
     → parsed a idm challenge long ≡ parsed a' idm' challenge' long'
-answers-one s idm idm' challenge challenge' long long' (AnswerCommand k) (AnswerCommand k') e at h h' =
-    let same : commandIs s idm challenge (fieldsOf k) ≡ commandIs s idm' challenge' (fieldsOf k') = cc in
+answers_one s idm idm' challenge challenge' long long' (AnswerCommand k) (AnswerCommand k') e at h h' =
+    let same : command_is s idm challenge (fields_of k) ≡ command_is s idm' challenge' (fields_of k') = cc in
     let count : long ≡ long' = cc in
-    commands-one s idm idm' challenge challenge' long long' count k k' same at h h'
-answers-one s idm idm' challenge challenge' long long' (AnswerCommand k) (AnswerRefused w) e at h h' = absurd (no-refusal _ _ w e)
-answers-one s idm idm' challenge challenge' long long' (AnswerRefused w) (AnswerCommand k) e at h h' = absurd (no-refusal _ _ w (sym e))
-answers-one s idm idm' challenge challenge' long long' (AnswerRefused w) (AnswerRefused w') e at h h' =
-    parsed-same (ap AnswerRefused (refusals-one w w' e)) (h.0 ∙ sym h'.0) (h.1 ∙ sym h'.1) (h.2 ∙ sym h'.2)
+    commands_one s idm idm' challenge challenge' long long' count k k' same at h h'
+answers_one s idm idm' challenge challenge' long long' (AnswerCommand k) (AnswerRefused w) e at h h' = absurd (no_refusal _ _ w e)
+answers_one s idm idm' challenge challenge' long long' (AnswerRefused w) (AnswerCommand k) e at h h' = absurd (no_refusal _ _ w (sym e))
+answers_one s idm idm' challenge challenge' long long' (AnswerRefused w) (AnswerRefused w') e at h h' =
+    parsed_same (ap AnswerRefused (refusals_one w w' e)) (h.0 ∙ sym h'.0) (h.1 ∙ sym h'.1) (h.2 ∙ sym h'.2)
 
-pub one-account : OneAccount
-one-account s at reading r t (m, p, c) (m', p', c') =
-    answers-one s r.idm t.idm r.challenge t.challenge r.long t.long r.answer t.answer (m ∙ sym m') (p ∙ sym p') c c'
+pub one_account : OneAccount
+one_account s at reading r t (m, p, c) (m', p', c') =
+    answers_one s r.idm t.idm r.challenge t.challenge r.long t.long r.answer t.answer (m ∙ sym m') (p ∙ sym p') c c'

@@ -5,7 +5,7 @@ use Rattle.felica_format.specs.Command.{Command}
 use Rattle.felica_command.specs.declared.fixed.Fixed.{Fixed}
 
 abbrev pub handed : ℕ → Fixed → List ℕ → List ℕ → List ℕ → List ℕ → List ℕ → List ℕ → List ℕ → Command
-handed code fixed first second numbers places modes blockData issuePackage =
+handed code fixed first second numbers places modes block_data issue_package =
     record {
       code = code;
       idm = fixed.idm;
@@ -15,11 +15,11 @@ handed code fixed first second numbers places modes blockData issuePackage =
       numbers = numbers;
       places = places;
       modes = modes;
-      blockData = blockData;
+      block_data = block_data;
       number = fixed.number;
       index = fixed.index;
       option = fixed.option;
       choice = fixed.choice;
       challenge = fixed.challenge;
-      issuePackage = issuePackage;
+      issue_package = issue_package;
     }

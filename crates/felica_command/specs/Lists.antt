@@ -7,5 +7,5 @@ use Rattle.felica_command.specs.declared.lists.Lists.{Lists}
 abbrev pub lists : Part → Part → Part → Lists
 lists first second blocks = record { first_codes = first; second_codes = second; block_list = blocks }
 
-abbrev pub listsIn : Fields → Lists
-listsIn f = lists f.first f.second f.elements
+abbrev pub lists_in : Fields → Lists
+lists_in f = lists f.first f.second f.elements

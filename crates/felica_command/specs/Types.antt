@@ -19,37 +19,37 @@ use Rattle.felica_command.specs.declared.types.PacketByte.{PacketByte}
 use Rattle.felica_command.specs.declared.types.PacketByte.TheVariants.{Defined as DefinedPacket, Undefined as UndefinedPacket}
 
 -- "`ContainerProperty::Unknown` never comes out of parsing with 0 or 1."
-abbrev pub propertyOf : ℕ → ContainerProperty
-propertyOf n = cond (eqb n 0) Property1 (cond (eqb n 1) Property2 (Unknown n))
+abbrev pub property_of : ℕ → ContainerProperty
+property_of n = cond (eqb n 0) Property1 (cond (eqb n 1) Property2 (Unknown n))
 
-abbrev pub propertyIndex : ContainerProperty → ℕ
-propertyIndex Property1 = 0
-propertyIndex Property2 = 1
-propertyIndex (Unknown n) = n
+abbrev pub property_index : ContainerProperty → ℕ
+property_index Property1 = 0
+property_index Property2 = 1
+property_index (Unknown n) = n
 
 -- "type 00 or 01" of 28
-abbrev pub nodePropertyByte : NodePropertyType → ℕ
-nodePropertyByte ValueLimitedPurseService = 0x00
-nodePropertyByte MacCommunication = 0x01
+abbrev pub node_property_byte : NodePropertyType → ℕ
+node_property_byte ValueLimitedPurseService = 0x00
+node_property_byte MacCommunication = 0x01
 
-abbrev pub nodePropertyTypeOf : ℕ → NodePropertyByte
-nodePropertyTypeOf b = cond (eqb b 0x00) (DefinedProperty ValueLimitedPurseService) (cond (eqb b 0x01) (DefinedProperty MacCommunication) UndefinedProperty)
+abbrev pub node_property_type_of : ℕ → NodePropertyByte
+node_property_type_of b = cond (eqb b 0x00) (DefinedProperty ValueLimitedPurseService) (cond (eqb b 0x01) (DefinedProperty MacCommunication) UndefinedProperty)
 
 -- "type 00 or 01, type 00 or 01" of 20
-abbrev pub encryptionByte : SetParameterEncryptionType → ℕ
-encryptionByte SrmType1 = 0x00
-encryptionByte SrmType2 = 0x01
+abbrev pub encryption_byte : SetParameterEncryptionType → ℕ
+encryption_byte SrmType1 = 0x00
+encryption_byte SrmType2 = 0x01
 
-abbrev pub encryptionTypeOf : ℕ → EncryptionByte
-encryptionTypeOf b = cond (eqb b 0x00) (DefinedEncryption SrmType1) (cond (eqb b 0x01) (DefinedEncryption SrmType2) UndefinedEncryption)
+abbrev pub encryption_type_of : ℕ → EncryptionByte
+encryption_type_of b = cond (eqb b 0x00) (DefinedEncryption SrmType1) (cond (eqb b 0x01) (DefinedEncryption SrmType2) UndefinedEncryption)
 
-abbrev pub packetByte : SetParameterPacketType → ℕ
-packetByte NodeCodeSize2 = 0x00
-packetByte NodeCodeSize4 = 0x01
+abbrev pub packet_byte : SetParameterPacketType → ℕ
+packet_byte NodeCodeSize2 = 0x00
+packet_byte NodeCodeSize4 = 0x01
 
-abbrev pub packetTypeOf : ℕ → PacketByte
-packetTypeOf b = cond (eqb b 0x00) (DefinedPacket NodeCodeSize2) (cond (eqb b 0x01) (DefinedPacket NodeCodeSize4) UndefinedPacket)
+abbrev pub packet_type_of : ℕ → PacketByte
+packet_type_of b = cond (eqb b 0x00) (DefinedPacket NodeCodeSize2) (cond (eqb b 0x01) (DefinedPacket NodeCodeSize4) UndefinedPacket)
 
 -- an element of a block list
-abbrev pub elementIs : BlockListElement → Element
-elementIs e = record { number = e.block_number_or_key_version.0; place = e.service_code_list_index; mode = e.access_mode }
+abbrev pub element_is : BlockListElement → Element
+element_is e = record { number = e.block_number_or_key_version.0; place = e.service_code_list_index; mode = e.access_mode }

@@ -1,7 +1,7 @@
 // The commands of command/mod.rs and the result of a parse.
 ghost use Rattle.std.specs.Prelude.{◌≡◌};
 ghost use Rattle.std.proofs.Math.Option.{some, none};
-ghost use Rattle.felica_command.specs.Meaning.{fieldsOf, refusedBy, refusal};
+ghost use Rattle.felica_command.specs.Meaning.{fields_of, refused_by, refusal};
 
 use crate::types::{
     ContainerProperty, NodeCode, NodePropertyType, ServiceCode, SetParameterEncryptionType,
@@ -115,7 +115,7 @@ pub enum FelicaStandardCommand {
 
 impl FelicaStandardCommand {
     pub fn command_code(self) -> u8
-        ensures { result ≡ (fieldsOf self).code }
+        ensures { result ≡ (fields_of self).code }
     {
         match self {
             Self::Polling { .. } => codes::POLLING_COMMAND_CODE,
@@ -182,7 +182,7 @@ pub struct Parsed {
 
 impl Parsed {
     fn refused_by(why: Refusal) -> Parsed
-        ensures { result ≡ refusedBy why }
+        ensures { result ≡ refused_by why }
     {
         Parsed {
             answer: Answer::Refused(why),

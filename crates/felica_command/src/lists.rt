@@ -1,7 +1,7 @@
 // The lists of a command, whichever command it is.
 ghost use Rattle.std.specs.Prelude.{◌≡◌};
-ghost use Rattle.felica_command.specs.Meaning.{fieldsOf};
-ghost use Rattle.felica_command.specs.Lists.{lists, listsIn};
+ghost use Rattle.felica_command.specs.Meaning.{fields_of};
+ghost use Rattle.felica_command.specs.Lists.{lists, lists_in};
 
 use crate::command::{FelicaStandardCommand, Part};
 
@@ -29,7 +29,7 @@ impl Lists {
 
 impl FelicaStandardCommand {
     pub fn lists(self) -> Lists
-        ensures { result ≡ listsIn (fieldsOf self) }
+        ensures { result ≡ lists_in (fields_of self) }
     {
         let none = Part { start: 0, count: 0 };
         match self {

@@ -1,7 +1,7 @@
 // The types of types.rs that the commands use, under its names. Where the Rust answers an `Option`, an enum says that a byte is undefined.
 ghost use Rattle.std.specs.Prelude.{◌≡◌};
-ghost use Rattle.felica_command.specs.Types.{propertyOf, propertyIndex, nodePropertyTypeOf, nodePropertyByte};
-ghost use Rattle.felica_command.specs.Types.{encryptionTypeOf, encryptionByte, packetTypeOf, packetByte};
+ghost use Rattle.felica_command.specs.Types.{property_of, property_index, node_property_type_of, node_property_byte};
+ghost use Rattle.felica_command.specs.Types.{encryption_type_of, encryption_byte, packet_type_of, packet_byte};
 
 #[derive(Clone, Copy)]
 pub struct ServiceCode(pub u16);
@@ -31,7 +31,7 @@ pub enum ContainerProperty {
 
 impl ContainerProperty {
     pub fn index(self) -> u16
-        ensures { result ≡ propertyIndex self }
+        ensures { result ≡ property_index self }
     {
         match self {
             ContainerProperty::Property1 => 0x0000,
@@ -41,7 +41,7 @@ impl ContainerProperty {
     }
 
     pub fn from_index(index: u16) -> Self
-        ensures { result ≡ propertyOf index }
+        ensures { result ≡ property_of index }
     {
         match index {
             0x0000 => ContainerProperty::Property1,
@@ -65,7 +65,7 @@ pub enum NodePropertyByte {
 
 impl NodePropertyType {
     pub fn to_byte(self) -> u8
-        ensures { result ≡ nodePropertyByte self }
+        ensures { result ≡ node_property_byte self }
     {
         match self {
             NodePropertyType::ValueLimitedPurseService => 0x00,
@@ -74,7 +74,7 @@ impl NodePropertyType {
     }
 
     pub fn from_byte(value: u8) -> NodePropertyByte
-        ensures { result ≡ nodePropertyTypeOf value }
+        ensures { result ≡ node_property_type_of value }
     {
         match value {
             0x00 => NodePropertyByte::Defined(NodePropertyType::ValueLimitedPurseService),
@@ -98,7 +98,7 @@ pub enum EncryptionByte {
 
 impl SetParameterEncryptionType {
     pub fn to_byte(self) -> u8
-        ensures { result ≡ encryptionByte self }
+        ensures { result ≡ encryption_byte self }
     {
         match self {
             SetParameterEncryptionType::SrmType1 => 0x00,
@@ -107,7 +107,7 @@ impl SetParameterEncryptionType {
     }
 
     pub fn from_byte(value: u8) -> EncryptionByte
-        ensures { result ≡ encryptionTypeOf value }
+        ensures { result ≡ encryption_type_of value }
     {
         match value {
             0x00 => EncryptionByte::Defined(SetParameterEncryptionType::SrmType1),
@@ -131,7 +131,7 @@ pub enum PacketByte {
 
 impl SetParameterPacketType {
     pub fn to_byte(self) -> u8
-        ensures { result ≡ packetByte self }
+        ensures { result ≡ packet_byte self }
     {
         match self {
             SetParameterPacketType::NodeCodeSize2 => 0x00,
@@ -140,7 +140,7 @@ impl SetParameterPacketType {
     }
 
     pub fn from_byte(value: u8) -> PacketByte
-        ensures { result ≡ packetTypeOf value }
+        ensures { result ≡ packet_type_of value }
     {
         match value {
             0x00 => PacketByte::Defined(SetParameterPacketType::NodeCodeSize2),

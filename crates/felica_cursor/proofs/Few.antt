@@ -9,65 +9,65 @@ use mathlib.Core.List.{List, [], ◌∷◌, ◌++◌}
 use lib.Dec.{ltb, leb}
 use lib.ListN.{length, get_or, drop, length-append, length-drop}
 use borrow.Author.Tests.{ltb-true, ltb-false, leb-true, leb-false, lt-ltb, le-ltb}
-use Rattle.felica_format.specs.Basic.{taken, refuse, wordOf}
-use Rattle.felica_format.specs.Command.{Formed, longCount}
-use Rattle.felica_format.specs.Read.{elementOf, formed, readCount, readElement, readEach, readLong, readShort}
-use Rattle.felica_format.proofs.Elements.{long-few}
-use Rattle.felica_format.proofs.Steps.{none-taken, taken-value, refuseIf-passed, refuseIf-taken}
-use Rattle.felica_format.proofs.Tests.{or-none}
-use Rattle.felica_command.specs.Places.{elementSize, elementsSize}
-use Rattle.felica_cursor.proofs.Blocks.{before, before-none, each-more, each-refused, each-done, long-more}
-use Rattle.felica_cursor.proofs.Laws.{at-front, at-front-2, at-front-3, long-cut, size-more, size-done}
+use Rattle.felica_format.specs.Basic.{taken, refuse, word_of}
+use Rattle.felica_format.specs.Command.{Formed, long_count}
+use Rattle.felica_format.specs.Read.{element_of, formed, read_count, read_element, read_each, read_long, read_short}
+use Rattle.felica_format.proofs.Elements.{long_few}
+use Rattle.felica_format.proofs.Steps.{none_taken, taken_value, refuse_if_passed, refuse_if_taken}
+use Rattle.felica_format.proofs.Tests.{or_none}
+use Rattle.felica_command.specs.Places.{element_size, elements_size}
+use Rattle.felica_cursor.proofs.Blocks.{before, before_none, each_more, each_refused, each_done, long_more}
+use Rattle.felica_cursor.proofs.Laws.{front_at, at_front_2, at_front_3, long_cut, size_more, size_done}
 
 -- what a count that was taken says
-pub count-taken : (missing outside least greatest : ℕ) (l : List ℕ) (n : ℕ) (r : List ℕ) → readCount missing outside least greatest l ≡ taken n r
+pub count_taken : (missing outside least greatest : ℕ) (l : List ℕ) (n : ℕ) (r : List ℕ) → read_count missing outside least greatest l ≡ taken n r
     → (least ≤ n) × (0 < length l)
-unfolding readCount
-count-taken missing outside least greatest [] n r e = absurd (none-taken e)
-count-taken missing outside least greatest (b ∷ l) n r e =
-    let low : least ≤ b = ltb-false _ _ (or-none _ _ (refuseIf-passed _ _ _ e)).0 in
-    let same : b ≡ n = taken-value (refuseIf-taken _ _ _ e) in
+unfolding read_count
+count_taken missing outside least greatest [] n r e = absurd (none_taken e)
+count_taken missing outside least greatest (b ∷ l) n r e =
+    let low : least ≤ b = ltb-false _ _ (or_none _ _ (refuse_if_passed _ _ _ e)).0 in
+    let same : b ≡ n = taken_value (refuse_if_taken _ _ _ e) in
     (omega arith, omega arith)
 
 -- ── one element ─────────────────────────────────────────────────────────────
 module _ (s : List ℕ) (at : ℕ) where
-  short-here : at + 1 < length s → 128 ≤ get_or s at 0
-      → readElement (drop at s) ≡ taken (formed false (elementOf (get_or s at 0) (get_or s (at + 1) 0))) (drop (at + 2) s)
-  unfolding readElement readShort
-  short-here h set = rw (at-front-2 s at h, le-ltb _ _ set)
+  short_here : at + 1 < length s → 128 ≤ get_or s at 0
+      → read_element (drop at s) ≡ taken (formed false (element_of (get_or s at 0) (get_or s (at + 1) 0))) (drop (at + 2) s)
+  unfolding read_element read_short
+  short_here h set = rw (at_front_2 s at h, le-ltb _ _ set)
 
-  long-here : at + 2 < length s → get_or s at 0 < 128
-      → readElement (drop at s) ≡ taken (formed true (elementOf (get_or s at 0) (wordOf (get_or s (at + 1) 0) (get_or s (at + 2) 0)))) (drop (at + 3) s)
-  unfolding readElement readLong
-  long-here h clear = rw (at-front-3 s at h, lt-ltb _ _ clear)
+  long_here : at + 2 < length s → get_or s at 0 < 128
+      → read_element (drop at s) ≡ taken (formed true (element_of (get_or s at 0) (word_of (get_or s (at + 1) 0) (get_or s (at + 2) 0)))) (drop (at + 3) s)
+  unfolding read_element read_long
+  long_here h clear = rw (at_front_3 s at h, lt-ltb _ _ clear)
 
-  long-lacks : at < length s → length s < at + 3 → get_or s at 0 < 128 → readElement (drop at s) ≡ refuse 16
-  unfolding readElement
-  long-lacks h short clear =
+  long_lacks : at < length s → length s < at + 3 → get_or s at 0 < 128 → read_element (drop at s) ≡ refuse 16
+  unfolding read_element
+  long_lacks h short clear =
       let few : length (drop (at + 1) s) < 2 = simp length-drop (omega arith) in
-      rw (at-front s at h, lt-ltb _ _ clear, long-cut (get_or s at 0) (drop (at + 1) s) few)
+      rw (front_at s at h, lt-ltb _ _ clear, long_cut (get_or s at 0) (drop (at + 1) s) few)
 
 -- of fewer than two bytes no element is taken
-pub none-of-one : (l : List ℕ) (f : Formed) (r : List ℕ) → length l < 2 → readElement l ≡ taken f r → ⊥
-unfolding readElement readShort readLong
-none-of-one [] f r few e = none-taken e
-none-of-one (head ∷ []) f r few e = go (ltb head 128) e
+pub none_of_one : (l : List ℕ) (f : Formed) (r : List ℕ) → length l < 2 → read_element l ≡ taken f r → ⊥
+unfolding read_element read_short read_long
+none_of_one [] f r few e = none_taken e
+none_of_one (head ∷ []) f r few e = go (ltb head 128) e
   where
-    go : (b : Bool) → cond b (readLong head []) (readShort head []) ≡ taken f r → ⊥
-    go true e = none-taken e
-    go false e = none-taken e
-none-of-one (head ∷ a ∷ l) f r few e = absurd (omega arith)
+    go : (b : Bool) → cond b (read_long head []) (read_short head []) ≡ taken f r → ⊥
+    go true e = none_taken e
+    go false e = none_taken e
+none_of_one (head ∷ a ∷ l) f r few e = absurd (omega arith)
 
 -- an element's size by its highest bit
-pub size-by-bit : (head : ℕ) → head < 256 → 3 - head / 128 ≡ elementSize head
-size-by-bit head small = go (ltb head 128) refl
+pub size_by_bit : (head : ℕ) → head < 256 → 3 - head / 128 ≡ element_size head
+size_by_bit head small = go (ltb head 128) refl
   where
     go : (b : Bool) → ltb head 128 ≡ b → 3 - head / 128 ≡ cond b 3 2
     go true h = let below : head < 128 = ltb-true _ _ h in omega arith
     go false h = let from : 128 ≤ head = ltb-false _ _ h in omega arith
 
-pub size-most : (head : ℕ) → elementSize head ≤ 3
-size-most head = go (ltb head 128)
+pub size_most : (head : ℕ) → element_size head ≤ 3
+size_most head = go (ltb head 128)
   where
     go : (b : Bool) → cond b 3 2 ≤ 3
     go true = omega arith
@@ -77,73 +77,73 @@ size-most head = go (ltb head 128)
 -- behind so many elements that were whole, with `left` still to come
 abbrev pub Walked : List ℕ → ℕ → ℕ → ℕ → ℕ → Type 0
 Walked s start count at left =
-    (done : List Formed) × (readEach count (drop start s) ≡ before done (readEach left (drop at s)))
-    × (at ≡ start + (2 * length done + longCount done)) × (length done + left ≡ count)
-    × (start + elementsSize count (drop start s) ≡ at + elementsSize left (drop at s))
+    (done : List Formed) × (read_each count (drop start s) ≡ before done (read_each left (drop at s)))
+    × (at ≡ start + (2 * length done + long_count done)) × (length done + left ≡ count)
+    × (start + elements_size count (drop start s) ≡ at + elements_size left (drop at s))
 
 -- or behind a long element that lacked its third byte
 abbrev pub Lacking : List ℕ → ℕ → ℕ → ℕ → Type 0
-Lacking s start count at = (at ≡ length s + 1) × (readEach count (drop start s) ≡ refuse 16)
+Lacking s start count at = (at ≡ length s + 1) × (read_each count (drop start s) ≡ refuse 16)
 
 abbrev pub Walk : List ℕ → ℕ → ℕ → ℕ → ℕ → Type 0
 Walk s start count at left = ((at ≤ length s) × Walked s start count at left) ⊎ Lacking s start count at
 
-pub walk-none : (s : List ℕ) (start count : ℕ) → start ≤ length s → Walk s start count start count
-walk-none s start count h = inl (h, ([], before-none _, omega arith, omega arith, refl))
+pub walk_none : (s : List ℕ) (start count : ℕ) → start ≤ length s → Walk s start count start count
+walk_none s start count h = inl (h, ([], before_none _, omega arith, omega arith, refl))
 
 module _ (s : List ℕ) (start count at left n : ℕ) (more : left ≡ suc n) where
-  walked-more : (f : Formed) (next : ℕ) → Walked s start count at left → readElement (drop at s) ≡ taken f (drop next s)
-      → next ≡ at + elementSize (get_or s at 0) → next ≡ at + 2 + cond f.long 1 0 → Walked s start count next n
-  walked-more f next (done, read, size, many, reach) took placed form =
-      let long = long-more done f in
-      let length-more : length (done ++ (f ∷ [])) ≡ length done + 1 = length-append done (f ∷ []) in (
+  walked_more : (f : Formed) (next : ℕ) → Walked s start count at left → read_element (drop at s) ≡ taken f (drop next s)
+      → next ≡ at + element_size (get_or s at 0) → next ≡ at + 2 + cond f.long 1 0 → Walked s start count next n
+  walked_more f next (done, read, size, many, reach) took placed form =
+      let long = long_more done f in
+      let length_more : length (done ++ (f ∷ [])) ≡ length done + 1 = length-append done (f ∷ []) in (
         done ++ (f ∷ []),
-        read ∙ each-more done f left n (drop at s) (drop next s) more took,
-        omega (arith, size, form, long, length-more),
-        omega (arith, many, more, length-more),
-        reach ∙ size-more s at next left n more placed,
+        read ∙ each_more done f left n (drop at s) (drop next s) more took,
+        omega (arith, size, form, long, length_more),
+        omega (arith, many, more, length_more),
+        reach ∙ size_more s at next left n more placed,
       )
 
   -- an element more, of which two bytes are there
-  pub walk-more : at + 2 ≤ length s → Walk s start count at left → Walk s start count (at + elementSize (get_or s at 0)) n
-  walk-more two (inr (end, read)) = absurd (omega arith)
-  walk-more two (inl (here, walked)) = go (ltb (get_or s at 0) 128) refl
+  pub walk_more : at + 2 ≤ length s → Walk s start count at left → Walk s start count (at + element_size (get_or s at 0)) n
+  walk_more two (inr (end, read)) = absurd (omega arith)
+  walk_more two (inl (here, walked)) = go (ltb (get_or s at 0) 128) refl
     where
       long : (b : Bool) → leb (at + 3) (length s) ≡ b → get_or s at 0 < 128 → Walk s start count (at + 3) n
       long true three clear =
           let there : at + 3 ≤ length s = leb-true _ _ three in
           let whole : at + 2 < length s = omega arith in
-          inl (there, walked-more _ (at + 3) walked (long-here s at whole clear) (rw (lt-ltb _ _ clear)) (omega arith))
+          inl (there, walked_more _ (at + 3) walked (long_here s at whole clear) (rw (lt-ltb _ _ clear)) (omega arith))
       long false three clear =
           let short : length s < at + 3 = leb-false _ _ three in
-          inr (omega arith, walked.1 ∙ each-refused walked.0 left n 16 (drop at s) more (long-lacks s at (omega arith) short clear))
+          inr (omega arith, walked.1 ∙ each_refused walked.0 left n 16 (drop at s) more (long_lacks s at (omega arith) short clear))
 
-      go : (b : Bool) → ltb (get_or s at 0) 128 ≡ b → Walk s start count (at + elementSize (get_or s at 0)) n
+      go : (b : Bool) → ltb (get_or s at 0) 128 ≡ b → Walk s start count (at + element_size (get_or s at 0)) n
       go true h = rw h (long (leb (at + 3) (length s)) refl (ltb-true _ _ h))
       go false h =
           let set : 128 ≤ get_or s at 0 = ltb-false _ _ h in
-          rw h (inl (two, walked-more _ (at + 2) walked (short-here s at (omega arith) set) (rw h) (omega arith)))
+          rw h (inl (two, walked_more _ (at + 2) walked (short_here s at (omega arith) set) (rw h) (omega arith)))
 
   -- no element more
-  pub walk-cut : (r : ℕ) → length s < at + 2 → (length s < at → r ≡ 16) → (at ≤ length s → readElement (drop at s) ≡ refuse r)
-      → Walk s start count at left → readEach count (drop start s) ≡ refuse r
-  walk-cut r few behind here (inr (end, read)) = read ∙ ap refuse (sym (behind (omega arith)))
-  walk-cut r few behind here (inl (inside, walked)) = walked.1 ∙ each-refused walked.0 left n r (drop at s) more (here inside)
+  pub walk_cut : (r : ℕ) → length s < at + 2 → (length s < at → r ≡ 16) → (at ≤ length s → read_element (drop at s) ≡ refuse r)
+      → Walk s start count at left → read_each count (drop start s) ≡ refuse r
+  walk_cut r few behind here (inr (end, read)) = read ∙ ap refuse (sym (behind (omega arith)))
+  walk_cut r few behind here (inl (inside, walked)) = walked.1 ∙ each_refused walked.0 left n r (drop at s) more (here inside)
 
 -- all elements: what was read, how far they reach and how many were long
-pub walk-done : (s : List ℕ) (start count at left : ℕ) → left ≡ 0 → at ≤ length s → Walk s start count at left
-    → (done : List Formed) × (readEach count (drop start s) ≡ taken done (drop at s)) × (at ≡ start + (2 * count + longCount done))
-    × (longCount done ≤ count) × (at ≡ start + elementsSize count (drop start s))
-walk-done s start count at left none inside (inr (end, read)) = absurd (omega arith)
-walk-done s start count at left none inside (inl (here, (done, read, size, many, reach))) =
-    let few = long-few done in (
+pub walk_done : (s : List ℕ) (start count at left : ℕ) → left ≡ 0 → at ≤ length s → Walk s start count at left
+    → (done : List Formed) × (read_each count (drop start s) ≡ taken done (drop at s)) × (at ≡ start + (2 * count + long_count done))
+    × (long_count done ≤ count) × (at ≡ start + elements_size count (drop start s))
+walk_done s start count at left none inside (inr (end, read)) = absurd (omega arith)
+walk_done s start count at left none inside (inl (here, (done, read, size, many, reach))) =
+    let few = long_few done in (
       done,
-      read ∙ each-done done left (drop at s) none,
+      read ∙ each_done done left (drop at s) none,
       omega (arith, size, many, none),
       omega (arith, few, many, none),
-      sym (reach ∙ size-done s at left none),
+      sym (reach ∙ size_done s at left none),
     )
 
-pub walk-lacks : (s : List ℕ) (start count at left : ℕ) → length s < at → Walk s start count at left → readEach count (drop start s) ≡ refuse 16
-walk-lacks s start count at left beyond (inr (end, read)) = read
-walk-lacks s start count at left beyond (inl (here, walked)) = absurd (omega arith)
+pub walk_lacks : (s : List ℕ) (start count at left : ℕ) → length s < at → Walk s start count at left → read_each count (drop start s) ≡ refuse 16
+walk_lacks s start count at left beyond (inr (end, read)) = read
+walk_lacks s start count at left beyond (inl (here, walked)) = absurd (omega arith)

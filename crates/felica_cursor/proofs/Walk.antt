@@ -8,17 +8,17 @@ use mathlib.Core.List.{List, [], map}
 use mathlib.Core.Option.{some}
 use lib.ListN.{length, drop}
 use borrow.Author.Tests.{le-ltb}
-use Rattle.felica_format.specs.Basic.{Step, taken, refuse, bind, refuseIf, zeros}
-use Rattle.felica_format.specs.Command.{Command, Formed, longCount, EndFields, endFields, commandOf, noFields}
-use Rattle.felica_format.specs.Layout.{noSelector, noCodes, bare, nothing, ignoredBytes, aPackage, Layout, layoutOf}
-use Rattle.felica_format.specs.Read.{readIdm, readSelector, readCodes, readElements, readData, readEnding, readValues, readPackage, ifCodes, counted, readBody}
-use Rattle.felica_command.specs.Types.{propertyOf, propertyIndex}
-use Rattle.felica_command.specs.Meaning.{Fields, fieldsOf, commandIs, refusal}
-use Rattle.felica_command.specs.Places.{placesIn, layoutPlaces}
+use Rattle.felica_format.specs.Basic.{Step, taken, refuse, bind, refuse_if, zeros}
+use Rattle.felica_format.specs.Command.{Command, Formed, long_count, EndFields, end_fields, command_of, no_fields}
+use Rattle.felica_format.specs.Layout.{no_selector, no_codes, bare, nothing, ignored_bytes, a_package, Layout, layout_of}
+use Rattle.felica_format.specs.Read.{read_idm, read_selector, read_codes, read_elements, read_data, read_ending, read_values, read_package, if_codes, counted, read_body}
+use Rattle.felica_command.specs.Types.{property_of, property_index}
+use Rattle.felica_command.specs.Meaning.{Fields, fields_of, command_is, refusal}
+use Rattle.felica_command.specs.Places.{places_in, layout_places}
 use Rattle.felica_command.specs.declared.command.Answer.TheVariants.{Command as AnswerCommand}
 use Rattle.felica_command.specs.declared.command.FelicaStandardCommand.{FelicaStandardCommand}
 use Rattle.felica_command.specs.declared.command.Parsed.{Parsed}
-use Rattle.felica_cursor.specs.Answers.{asStep, movedWith, byteTaken, propertyTypeTaken, wordTaken, wordsTaken, pollingTaken, parameterTaken}
+use Rattle.felica_cursor.specs.Answers.{as_step, moved_with, byte_taken, property_type_taken, word_taken, words_taken, polling_taken, parameter_taken}
 use Rattle.felica_cursor.specs.declared.answers.Moved.{Moved}
 use Rattle.felica_cursor.specs.declared.answers.ByteTaken.{ByteTaken}
 use Rattle.felica_cursor.specs.declared.answers.PropertyTypeTaken.{PropertyTypeTaken}
@@ -37,94 +37,94 @@ unfolding bind
 stop k h = rw h
 
 -- the steps of a body, in field order
-pub body : (code : ℕ) (l : Layout) (s : List ℕ) → readBody code l s ≡ (bind (readIdm l.idm s) λ idm s₁.
-    bind (readSelector l.selector s₁) λ selector s₂.
-    bind (readCodes 9 10 l.first s₂) λ first s₃.
-    bind (readCodes 11 12 l.second s₃) λ second s₄.
-    bind (readElements (ifCodes l.first 11 9) (ifCodes l.first 12 10) l.elements s₄) λ blocks s₅.
-    bind (readData l.blockData (length blocks) s₅) λ blockData s₆.
-    bind (readEnding l.ending l.behind s₆) λ values s₇.
-    bind (readPackage l.behind s₇) λ issuePackage s₈.
-    taken (counted (commandOf code idm selector first second (map (λ b. b.element) blocks) blockData values issuePackage) (longCount blocks)) s₈)
-unfolding readBody
+pub body : (code : ℕ) (l : Layout) (s : List ℕ) → read_body code l s ≡ (bind (read_idm l.idm s) λ idm s₁.
+    bind (read_selector l.selector s₁) λ selector s₂.
+    bind (read_codes 9 10 l.first s₂) λ first s₃.
+    bind (read_codes 11 12 l.second s₃) λ second s₄.
+    bind (read_elements (if_codes l.first 11 9) (if_codes l.first 12 10) l.elements s₄) λ blocks s₅.
+    bind (read_data l.block_data (length blocks) s₅) λ block_data s₆.
+    bind (read_ending l.ending l.behind s₆) λ values s₇.
+    bind (read_package l.behind s₇) λ issue_package s₈.
+    taken (counted (command_of code idm selector first second (map (λ b. b.element) blocks) block_data values issue_package) (long_count blocks)) s₈)
+unfolding read_body
 body code l s = refl
 
 -- parts that a layout lacks
-pub no-idm : (s : List ℕ) → readIdm false s ≡ taken (zeros 8) s
-unfolding readIdm
-no-idm s = refl
+pub no_idm : (s : List ℕ) → read_idm false s ≡ taken (zeros 8) s
+unfolding read_idm
+no_idm s = refl
 
-pub no-selector : (s : List ℕ) → readSelector noSelector s ≡ taken 0 s
-unfolding readSelector
-no-selector s = refl
+pub no_selector_read : (s : List ℕ) → read_selector no_selector s ≡ taken 0 s
+unfolding read_selector
+no_selector_read s = refl
 
-pub no-codes : (m o : ℕ) (s : List ℕ) → readCodes m o noCodes s ≡ taken [] s
-unfolding readCodes
-no-codes m o s = refl
+pub no_codes_read : (m o : ℕ) (s : List ℕ) → read_codes m o no_codes s ≡ taken [] s
+unfolding read_codes
+no_codes_read m o s = refl
 
-pub no-elements : (m o : ℕ) (s : List ℕ) → readElements m o false s ≡ taken [] s
-unfolding readElements
-no-elements m o s = refl
+pub no_elements : (m o : ℕ) (s : List ℕ) → read_elements m o false s ≡ taken [] s
+unfolding read_elements
+no_elements m o s = refl
 
-pub no-data : (m : ℕ) (s : List ℕ) → readData false m s ≡ taken [] s
-unfolding readData
-no-data m s = refl
+pub no_data : (m : ℕ) (s : List ℕ) → read_data false m s ≡ taken [] s
+unfolding read_data
+no_data m s = refl
 
-pub no-package : (s : List ℕ) → readPackage nothing s ≡ taken [] s
-unfolding readPackage
-no-package s = refl
+pub no_package : (s : List ℕ) → read_package nothing s ≡ taken [] s
+unfolding read_package
+no_package s = refl
 
 -- a tail that is ignored, and one that is the package
-pub ignored-ending : (s : List ℕ) → readEnding bare ignoredBytes s ≡ taken noFields s
-unfolding readEnding readValues refuseIf
-ignored-ending s = rw (le-ltb (length s) 0 (omega arith))
+pub ignored_ending : (s : List ℕ) → read_ending bare ignored_bytes s ≡ taken no_fields s
+unfolding read_ending read_values refuse_if
+ignored_ending s = rw (le-ltb (length s) 0 (omega arith))
 
-pub ignored-package : (s : List ℕ) → readPackage ignoredBytes s ≡ taken [] s
-unfolding readPackage
-ignored-package s = refl
+pub ignored_package : (s : List ℕ) → read_package ignored_bytes s ≡ taken [] s
+unfolding read_package
+ignored_package s = refl
 
-pub whole-package : (s : List ℕ) → readPackage aPackage s ≡ taken s []
-unfolding readPackage
-whole-package s = refl
+pub whole_package : (s : List ℕ) → read_package a_package s ≡ taken s []
+unfolding read_package
+whole_package s = refl
 
 -- the data of as many elements as were read
-pub data-counted : (es : List Formed) (n : ℕ) (l : List ℕ) {x : Step (List ℕ)} → length es ≡ n → readData true n l ≡ x → readData true (length es) l ≡ x
-data-counted es n l e h = rw e h
+pub data_counted : (es : List Formed) (n : ℕ) (l : List ℕ) {x : Step (List ℕ)} → length es ≡ n → read_data true n l ≡ x → read_data true (length es) l ≡ x
+data_counted es n l e h = rw e h
 
 -- a body that is refused
-pub refused-at : (s : List ℕ) (at code n g : ℕ) (l : Layout) (r : Parsed) → layoutOf code ≡ l → readBody code l (drop at s) ≡ refuse n
+pub refused_at : (s : List ℕ) (at code n g : ℕ) (l : Layout) (r : Parsed) → layout_of code ≡ l → read_body code l (drop at s) ≡ refuse n
     → g ≡ n → r ≡ refusal g (some code) → BodyRead s at code r
-refused-at s at code n g l r is walk ground e = rw (e, ground, is, walk) (refl, refl, (refl, refl, refl))
+refused_at s at code n g l r is walk ground e = rw (e, ground, is, walk) (refl, refl, (refl, refl, refl))
 
 -- a body that is accepted
-pub accepted-at : (s : List ℕ) (at code : ℕ) (l : Layout) (kind : FelicaStandardCommand) (f : Fields) (idm challenge : List ℕ) (long n : ℕ) (rest : List ℕ) (c : Command)
-    → long ≡ n → layoutOf code ≡ l → fieldsOf kind ≡ f → readBody code l (drop at s) ≡ taken (counted c n) rest → commandIs s idm challenge f ≡ c → c.code ≡ code
-    → placesIn f ≡ layoutPlaces l at s c → f.property ≡ propertyOf (propertyIndex f.property)
+pub accepted_at : (s : List ℕ) (at code : ℕ) (l : Layout) (kind : FelicaStandardCommand) (f : Fields) (idm challenge : List ℕ) (long n : ℕ) (rest : List ℕ) (c : Command)
+    → long ≡ n → layout_of code ≡ l → fields_of kind ≡ f → read_body code l (drop at s) ≡ taken (counted c n) rest → command_is s idm challenge f ≡ c → c.code ≡ code
+    → places_in f ≡ layout_places l at s c → f.property ≡ property_of (property_index f.property)
     → BodyRead s at code (record { answer = AnswerCommand kind; idm = idm; challenge = challenge; long = long })
-accepted-at s at code l kind f idm challenge long n rest c count is fields walk meant coded placed property =
-    rw (is, walk, fields) (rw (meant, count) refl, placed ∙ ap (λ (k : Layout). layoutPlaces k at s c) (sym (ap layoutOf coded ∙ is)), property)
+accepted_at s at code l kind f idm challenge long n rest c count is fields walk meant coded placed property =
+    rw (is, walk, fields) (rw (meant, count) refl, placed ∙ ap (λ (k : Layout). layout_places k at s c) (sym (ap layout_of coded ∙ is)), property)
 
 -- what an answer says, as a step on the bytes s
-abbrev pub idmStep : List ℕ → List ℕ → Moved → Step (List ℕ)
-idmStep s idm x = asStep s (movedWith idm x)
+abbrev pub idm_step : List ℕ → List ℕ → Moved → Step (List ℕ)
+idm_step s idm x = as_step s (moved_with idm x)
 
-abbrev pub endStep : List ℕ → List ℕ → Moved → Step EndFields
-endStep s challenge x = asStep s (movedWith (endFields 0 0 0 0 challenge) x)
+abbrev pub end_step : List ℕ → List ℕ → Moved → Step EndFields
+end_step s challenge x = as_step s (moved_with (end_fields 0 0 0 0 challenge) x)
 
-abbrev pub byteStep : List ℕ → ByteTaken → Step ℕ
-byteStep s x = asStep s (byteTaken x)
+abbrev pub byte_step : List ℕ → ByteTaken → Step ℕ
+byte_step s x = as_step s (byte_taken x)
 
-abbrev pub propertyTypeStep : List ℕ → PropertyTypeTaken → Step ℕ
-propertyTypeStep s x = asStep s (propertyTypeTaken x)
+abbrev pub property_type_step : List ℕ → PropertyTypeTaken → Step ℕ
+property_type_step s x = as_step s (property_type_taken x)
 
-abbrev pub wordStep : List ℕ → WordTaken → Step EndFields
-wordStep s x = asStep s (wordTaken x)
+abbrev pub word_step : List ℕ → WordTaken → Step EndFields
+word_step s x = as_step s (word_taken x)
 
-abbrev pub wordsStep : List ℕ → WordsTaken → Step EndFields
-wordsStep s x = asStep s (wordsTaken x)
+abbrev pub words_step : List ℕ → WordsTaken → Step EndFields
+words_step s x = as_step s (words_taken x)
 
-abbrev pub pollingStep : List ℕ → PollingTaken → Step EndFields
-pollingStep s x = asStep s (pollingTaken x)
+abbrev pub polling_step : List ℕ → PollingTaken → Step EndFields
+polling_step s x = as_step s (polling_taken x)
 
-abbrev pub parameterStep : List ℕ → ParameterTaken → Step EndFields
-parameterStep s x = asStep s (parameterTaken x)
+abbrev pub parameter_step : List ℕ → ParameterTaken → Step EndFields
+parameter_step s x = as_step s (parameter_taken x)

@@ -2,10 +2,10 @@
 -- Assumes nothing.
 use Rattle.std.specs.Prelude.{◌≡◌, ℕ, List, drop}
 use Rattle.felica_format.specs.Basic.{Step, taken, refuse, zeros}
-use Rattle.felica_format.specs.Command.{Formed, EndFields, endFields, noFields}
+use Rattle.felica_format.specs.Command.{Formed, EndFields, end_fields, no_fields}
 use Rattle.felica_format.specs.Read.{formed}
 use Rattle.felica_command.specs.declared.command.Part.{Part}
-use Rattle.felica_command.specs.Types.{elementIs, nodePropertyByte, encryptionByte, packetByte}
+use Rattle.felica_command.specs.Types.{element_is, node_property_byte, encryption_byte, packet_byte}
 use Rattle.felica_cursor.specs.declared.answers.IdmTaken.{IdmTaken}
 use Rattle.felica_cursor.specs.declared.answers.ChallengeTaken.{ChallengeTaken}
 use Rattle.felica_cursor.specs.declared.answers.Moved.{Moved}
@@ -35,9 +35,9 @@ pub data Walked (A : Type 0) : Type 0 where
   halted : ℕ → Walked A
 
 -- as a step of the definitions on the bytes s: behind the position stands the rest
-abbrev pub asStep : {A : Type 0} → List ℕ → Walked A → Step A
-asStep s (onward v at) = taken v (drop at s)
-asStep s (halted n) = refuse n
+abbrev pub as_step : {A : Type 0} → List ℕ → Walked A → Step A
+as_step s (onward v at) = taken v (drop at s)
+as_step s (halted n) = refuse n
 
 -- what holds of the value and the position, where there are any
 abbrev pub Holds : {A : Type 0} → (A → ℕ → Type 0) → Walked A → Type 0
@@ -50,89 +50,89 @@ MovesTo n (onward v at) = at ≡ n
 MovesTo n (halted g) = Unit {0}
 
 -- the ground, and 0 where something was taken
-abbrev pub groundOf : {A : Type 0} → Walked A → ℕ
-groundOf (onward v at) = 0
-groundOf (halted n) = n
+abbrev pub ground_of : {A : Type 0} → Walked A → ℕ
+ground_of (onward v at) = 0
+ground_of (halted n) = n
 
--- each answer as such a one; `movedWith v` gives a bare move the value v
-abbrev pub movedWith : {A : Type 0} → A → Moved → Walked A
-movedWith v (On c) = onward v c.at
-movedWith v (MovedRefused n) = halted n
+-- each answer as such a one; `moved_with v` gives a bare move the value v
+abbrev pub moved_with : {A : Type 0} → A → Moved → Walked A
+moved_with v (On c) = onward v c.at
+moved_with v (MovedRefused n) = halted n
 
-abbrev pub idmTaken : IdmTaken → Walked (List ℕ)
-idmTaken r = movedWith r.idm r.step
+abbrev pub idm_taken : IdmTaken → Walked (List ℕ)
+idm_taken r = moved_with r.idm r.step
 
-abbrev pub challengeTaken : ChallengeTaken → Walked EndFields
-challengeTaken r = movedWith (endFields 0 0 0 0 r.challenge) r.step
+abbrev pub challenge_taken : ChallengeTaken → Walked EndFields
+challenge_taken r = moved_with (end_fields 0 0 0 0 r.challenge) r.step
 
-abbrev pub byteTaken : ByteTaken → Walked ℕ
-byteTaken (Byte n c) = onward n c.at
-byteTaken (ByteRefused n) = halted n
+abbrev pub byte_taken : ByteTaken → Walked ℕ
+byte_taken (Byte n c) = onward n c.at
+byte_taken (ByteRefused n) = halted n
 
-abbrev pub listTaken : ListTaken → Walked Part
-listTaken (ListAt p c) = onward p c.at
-listTaken (ListRefused n) = halted n
+abbrev pub list_taken : ListTaken → Walked Part
+list_taken (ListAt p c) = onward p c.at
+list_taken (ListRefused n) = halted n
 
-abbrev pub blockTaken : ElementTaken → Walked Formed
-blockTaken (ElementAt e long c) = onward (formed long (elementIs e)) c.at
-blockTaken (ElementRefused n) = halted n
+abbrev pub block_taken : ElementTaken → Walked Formed
+block_taken (ElementAt e long c) = onward (formed long (element_is e)) c.at
+block_taken (ElementRefused n) = halted n
 
-abbrev pub blocksTaken : BlocksTaken → Walked Part
-blocksTaken (Blocks p long c) = onward p c.at
-blocksTaken (BlocksRefused n) = halted n
+abbrev pub blocks_taken : BlocksTaken → Walked Part
+blocks_taken (Blocks p long c) = onward p c.at
+blocks_taken (BlocksRefused n) = halted n
 
 -- how many were long
-abbrev pub longTaken : BlocksTaken → ℕ
-longTaken (Blocks p long c) = long
-longTaken (BlocksRefused n) = 0
+abbrev pub long_taken : BlocksTaken → ℕ
+long_taken (Blocks p long c) = long
+long_taken (BlocksRefused n) = 0
 
-abbrev pub propertyTypeTaken : PropertyTypeTaken → Walked ℕ
-propertyTypeTaken (Property t c) = onward (nodePropertyByte t) c.at
-propertyTypeTaken (PropertyTypeRefused n) = halted n
+abbrev pub property_type_taken : PropertyTypeTaken → Walked ℕ
+property_type_taken (Property t c) = onward (node_property_byte t) c.at
+property_type_taken (PropertyTypeRefused n) = halted n
 
-abbrev pub wordTaken : WordTaken → Walked EndFields
-wordTaken (Word n c) = onward (endFields n 0 0 0 (zeros 16)) c.at
-wordTaken (WordRefused n) = halted n
+abbrev pub word_taken : WordTaken → Walked EndFields
+word_taken (Word n c) = onward (end_fields n 0 0 0 (zeros 16)) c.at
+word_taken (WordRefused n) = halted n
 
-abbrev pub wordsTaken : WordsTaken → Walked EndFields
-wordsTaken (Words m n c) = onward (endFields m n 0 0 (zeros 16)) c.at
-wordsTaken (WordsRefused n) = halted n
+abbrev pub words_taken : WordsTaken → Walked EndFields
+words_taken (Words m n c) = onward (end_fields m n 0 0 (zeros 16)) c.at
+words_taken (WordsRefused n) = halted n
 
-abbrev pub pollingTaken : PollingTaken → Walked EndFields
-pollingTaken (Parameters system request slots c) = onward (endFields system 0 request slots (zeros 16)) c.at
-pollingTaken (PollingRefused n) = halted n
+abbrev pub polling_taken : PollingTaken → Walked EndFields
+polling_taken (Parameters system request slots c) = onward (end_fields system 0 request slots (zeros 16)) c.at
+polling_taken (PollingRefused n) = halted n
 
-abbrev pub parameterTaken : ParameterTaken → Walked EndFields
-parameterTaken (Types encryption packet c) = onward (endFields 0 0 (encryptionByte encryption) (packetByte packet) (zeros 16)) c.at
-parameterTaken (ParameterRefused n) = halted n
+abbrev pub parameter_taken : ParameterTaken → Walked EndFields
+parameter_taken (Types encryption packet c) = onward (end_fields 0 0 (encryption_byte encryption) (packet_byte packet) (zeros 16)) c.at
+parameter_taken (ParameterRefused n) = halted n
 
 -- the ground of each answer
-abbrev pub movedGround : Moved → ℕ
-movedGround r = groundOf (movedWith noFields r)
+abbrev pub moved_ground : Moved → ℕ
+moved_ground r = ground_of (moved_with no_fields r)
 
-abbrev pub byteGround : ByteTaken → ℕ
-byteGround r = groundOf (byteTaken r)
+abbrev pub byte_ground : ByteTaken → ℕ
+byte_ground r = ground_of (byte_taken r)
 
-abbrev pub listGround : ListTaken → ℕ
-listGround r = groundOf (listTaken r)
+abbrev pub list_ground : ListTaken → ℕ
+list_ground r = ground_of (list_taken r)
 
-abbrev pub elementGround : ElementTaken → ℕ
-elementGround r = groundOf (blockTaken r)
+abbrev pub element_ground : ElementTaken → ℕ
+element_ground r = ground_of (block_taken r)
 
-abbrev pub blocksGround : BlocksTaken → ℕ
-blocksGround r = groundOf (blocksTaken r)
+abbrev pub blocks_ground : BlocksTaken → ℕ
+blocks_ground r = ground_of (blocks_taken r)
 
-abbrev pub propertyGround : PropertyTypeTaken → ℕ
-propertyGround r = groundOf (propertyTypeTaken r)
+abbrev pub property_ground : PropertyTypeTaken → ℕ
+property_ground r = ground_of (property_type_taken r)
 
-abbrev pub wordGround : WordTaken → ℕ
-wordGround r = groundOf (wordTaken r)
+abbrev pub word_ground : WordTaken → ℕ
+word_ground r = ground_of (word_taken r)
 
-abbrev pub wordsGround : WordsTaken → ℕ
-wordsGround r = groundOf (wordsTaken r)
+abbrev pub words_ground : WordsTaken → ℕ
+words_ground r = ground_of (words_taken r)
 
-abbrev pub pollingGround : PollingTaken → ℕ
-pollingGround r = groundOf (pollingTaken r)
+abbrev pub polling_ground : PollingTaken → ℕ
+polling_ground r = ground_of (polling_taken r)
 
-abbrev pub parameterGround : ParameterTaken → ℕ
-parameterGround r = groundOf (parameterTaken r)
+abbrev pub parameter_ground : ParameterTaken → ℕ
+parameter_ground r = ground_of (parameter_taken r)

@@ -1,7 +1,7 @@
 // The answer of each step: what it took, with the position behind it, or the number of the ground on which it refuses.
 ghost use Rattle.std.specs.Prelude.{◌≡◌};
-ghost use Rattle.felica_cursor.specs.Answers.{movedGround, byteGround, listGround, elementGround, blocksGround, propertyGround};
-ghost use Rattle.felica_cursor.specs.Answers.{wordGround, wordsGround, pollingGround, parameterGround};
+ghost use Rattle.felica_cursor.specs.Answers.{moved_ground, byte_ground, list_ground, element_ground, blocks_ground, property_ground};
+ghost use Rattle.felica_cursor.specs.Answers.{word_ground, words_ground, polling_ground, parameter_ground};
 
 use crate::cursor::Cursor;
 use felica_command::command::Part;
@@ -89,7 +89,7 @@ pub enum ParameterTaken {
 // The ground of a step that refused, and 0 of one that took something.
 impl Moved {
     pub fn ground(self) -> u8
-        ensures { result ≡ movedGround self }
+        ensures { result ≡ moved_ground self }
     {
         match self {
             Moved::Refused(number) => number,
@@ -100,7 +100,7 @@ impl Moved {
 
 impl ByteTaken {
     pub fn ground(self) -> u8
-        ensures { result ≡ byteGround self }
+        ensures { result ≡ byte_ground self }
     {
         match self {
             ByteTaken::Refused(number) => number,
@@ -111,7 +111,7 @@ impl ByteTaken {
 
 impl ListTaken {
     pub fn ground(self) -> u8
-        ensures { result ≡ listGround self }
+        ensures { result ≡ list_ground self }
     {
         match self {
             ListTaken::Refused(number) => number,
@@ -122,7 +122,7 @@ impl ListTaken {
 
 impl BlocksTaken {
     pub fn ground(self) -> u8
-        ensures { result ≡ blocksGround self }
+        ensures { result ≡ blocks_ground self }
     {
         match self {
             BlocksTaken::Refused(number) => number,
@@ -133,7 +133,7 @@ impl BlocksTaken {
 
 impl ElementTaken {
     pub fn ground(self) -> u8
-        ensures { result ≡ elementGround self }
+        ensures { result ≡ element_ground self }
     {
         match self {
             ElementTaken::Refused(number) => number,
@@ -144,7 +144,7 @@ impl ElementTaken {
 
 impl PropertyTypeTaken {
     pub fn ground(self) -> u8
-        ensures { result ≡ propertyGround self }
+        ensures { result ≡ property_ground self }
     {
         match self {
             PropertyTypeTaken::Refused(number) => number,
@@ -155,7 +155,7 @@ impl PropertyTypeTaken {
 
 impl WordTaken {
     pub fn ground(self) -> u8
-        ensures { result ≡ wordGround self }
+        ensures { result ≡ word_ground self }
     {
         match self {
             WordTaken::Refused(number) => number,
@@ -166,7 +166,7 @@ impl WordTaken {
 
 impl WordsTaken {
     pub fn ground(self) -> u8
-        ensures { result ≡ wordsGround self }
+        ensures { result ≡ words_ground self }
     {
         match self {
             WordsTaken::Refused(number) => number,
@@ -177,7 +177,7 @@ impl WordsTaken {
 
 impl PollingTaken {
     pub fn ground(self) -> u8
-        ensures { result ≡ pollingGround self }
+        ensures { result ≡ polling_ground self }
     {
         match self {
             PollingTaken::Refused(number) => number,
@@ -188,7 +188,7 @@ impl PollingTaken {
 
 impl ParameterTaken {
     pub fn ground(self) -> u8
-        ensures { result ≡ parameterGround self }
+        ensures { result ≡ parameter_ground self }
     {
         match self {
             ParameterTaken::Refused(number) => number,

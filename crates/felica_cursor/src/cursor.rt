@@ -1,14 +1,14 @@
 // A position in a payload, and the steps in front of the fixed bytes that end a layout. Each takes its bytes and hands the position back moved on, or refuses.
 // A position may be any number: from the payload's end on, nothing is left.
 ghost use Rattle.std.specs.Prelude.{◌≡◌, true, length, take, drop, ◌+◌, ◌-◌, ◌*◌, ◌≤◌, ◌<◌};
-ghost use Rattle.felica_format.specs.Basic.{refuse, wordOf};
-ghost use Rattle.felica_format.specs.Layout.{◌to◌, typeByte, anyByte, boundsAt};
-ghost use Rattle.felica_format.specs.Read.{elementOf, readIdm, readSelector, readCount, readWords, readCodes, readElement, readEach, readElements, readData};
-ghost use Rattle.felica_command.specs.Places.{elementSize};
-ghost use Rattle.felica_command.specs.Types.{elementIs};
-ghost use Rattle.felica_cursor.specs.Answers.{asStep, MovesTo, idmTaken, byteTaken, propertyTypeTaken};
-ghost use Rattle.felica_cursor.specs.Steps.{IdmZero, codesTaken, CodesPlaced, elementTaken, ElementPlaced, elementsTaken};
-ghost use Rattle.felica_cursor.specs.Steps.{ElementsPlaced, dataTaken, DataPlaced};
+ghost use Rattle.felica_format.specs.Basic.{refuse, word_of};
+ghost use Rattle.felica_format.specs.Layout.{◌to◌, type_byte, any_byte, bounds_at};
+ghost use Rattle.felica_format.specs.Read.{element_of, read_idm, read_selector, read_count, read_words, read_codes, read_element, read_each, read_elements, read_data};
+ghost use Rattle.felica_command.specs.Places.{element_size};
+ghost use Rattle.felica_command.specs.Types.{element_is};
+ghost use Rattle.felica_cursor.specs.Answers.{as_step, MovesTo, idm_taken, byte_taken, property_type_taken};
+ghost use Rattle.felica_cursor.specs.Steps.{IdmZero, codes_taken, CodesPlaced, element_taken, ElementPlaced, elements_taken};
+ghost use Rattle.felica_cursor.specs.Steps.{ElementsPlaced, data_taken, DataPlaced};
 
 use crate::answers::{
     BlocksTaken, ByteTaken, ElementTaken, IdmTaken, ListTaken, Moved, PropertyTypeTaken,
@@ -28,13 +28,13 @@ pub struct Cursor {
 
 // A two-byte number, low byte first.
 pub fn word_of(low: u8, high: u8) -> u16
-    ensures { result ≡ wordOf low high }
+    ensures { result ≡ word_of low high }
 {
     (low as u16) + 256 * (high as u16)
 }
 
 fn element(header: u8, number: u16) -> BlockListElement
-    ensures { elementIs result ≡ elementOf header number }
+    ensures { element_is result ≡ element_of header number }
 {
     BlockListElement {
         block_number_or_key_version: BlockNumber(number),
@@ -72,7 +72,7 @@ impl Cursor {
 
     // parse_idm
     pub fn take_idm(self, payload: &[u8]) -> IdmTaken
-        ensures { (readIdm true (drop self.at payload.now) ≡ asStep payload.now (idmTaken result)) × MovesTo (self.at + 8) (idmTaken result) × IdmZero result }
+        ensures { (read_idm true (drop self.at payload.now) ≡ as_step payload.now (idm_taken result)) × MovesTo (self.at + 8) (idm_taken result) × IdmZero result }
     {
         let at = self.at;
         let left = self.left(payload);
@@ -93,7 +93,7 @@ impl Cursor {
 
     // The type byte of Get Node Property.
     pub fn take_node_property_type(self, payload: &[u8]) -> PropertyTypeTaken
-        ensures { (readSelector typeByte (drop self.at payload.now) ≡ asStep payload.now (propertyTypeTaken result)) × MovesTo (self.at + 1) (propertyTypeTaken result) }
+        ensures { (read_selector type_byte (drop self.at payload.now) ≡ as_step payload.now (property_type_taken result)) × MovesTo (self.at + 1) (property_type_taken result) }
     {
         let at = self.at;
         if payload.len() <= at {
@@ -108,7 +108,7 @@ impl Cursor {
 
     // The operation parameter of Authentication1 v2, any byte.
     pub fn take_operation_parameter(self, payload: &[u8]) -> ByteTaken
-        ensures { (readSelector anyByte (drop self.at payload.now) ≡ asStep payload.now (byteTaken result)) × MovesTo (self.at + 1) (byteTaken result) }
+        ensures { (read_selector any_byte (drop self.at payload.now) ≡ as_step payload.now (byte_taken result)) × MovesTo (self.at + 1) (byte_taken result) }
     {
         let at = self.at;
         if payload.len() <= at {
@@ -125,7 +125,7 @@ impl Cursor {
         missing: u8,
         out_of_range: u8,
     ) -> ByteTaken
-        ensures { (readCount missing out_of_range least greatest (drop self.at payload.now) ≡ asStep payload.now (byteTaken result)) × MovesTo (self.at + 1) (byteTaken result) }
+        ensures { (read_count missing out_of_range least greatest (drop self.at payload.now) ≡ as_step payload.now (byte_taken result)) × MovesTo (self.at + 1) (byte_taken result) }
     {
         let at = self.at;
         if payload.len() <= at {
@@ -143,7 +143,7 @@ impl Cursor {
 
     // The count of a list of codes, within the bounds that a plain code's row has.
     pub fn take_count(self, payload: &[u8], row: usize, missing: u8, out_of_range: u8) -> ByteTaken
-        ensures { (readCount missing out_of_range (boundsAt row).least (boundsAt row).greatest (drop self.at payload.now) ≡ asStep payload.now (byteTaken result)) × MovesTo (self.at + 1) (byteTaken result) }
+        ensures { (read_count missing out_of_range (bounds_at row).least (bounds_at row).greatest (drop self.at payload.now) ≡ as_step payload.now (byte_taken result)) × MovesTo (self.at + 1) (byte_taken result) }
     {
         let bounds = bounds_at(row);
         self.take_between(
@@ -156,7 +156,7 @@ impl Cursor {
     }
 
     pub fn take_block_count(self, payload: &[u8], missing: u8, out_of_range: u8) -> ByteTaken
-        ensures { (readCount missing out_of_range 1 255 (drop self.at payload.now) ≡ asStep payload.now (byteTaken result)) × MovesTo (self.at + 1) (byteTaken result) }
+        ensures { (read_count missing out_of_range 1 255 (drop self.at payload.now) ≡ as_step payload.now (byte_taken result)) × MovesTo (self.at + 1) (byte_taken result) }
     {
         self.take_between(
             payload,
@@ -169,7 +169,7 @@ impl Cursor {
 
     // parse_u16_list_le: the codes behind their count.
     pub fn take_u16s(self, payload: &[u8], count: u8) -> ListTaken
-        ensures { (readWords count (drop self.at payload.now) ≡ codesTaken payload.now result) × CodesPlaced self.at result }
+        ensures { (read_words count (drop self.at payload.now) ≡ codes_taken payload.now result) × CodesPlaced self.at result }
     {
         let start = self.at;
         let left = self.left(payload);
@@ -196,7 +196,7 @@ impl Cursor {
         missing: u8,
         out_of_range: u8,
     ) -> ListTaken
-        ensures { (readCodes missing out_of_range ((boundsAt row).least to (boundsAt row).greatest) (drop self.at payload.now) ≡ codesTaken payload.now result) × CodesPlaced (self.at + 1) result }
+        ensures { (read_codes missing out_of_range ((bounds_at row).least to (bounds_at row).greatest) (drop self.at payload.now) ≡ codes_taken payload.now result) × CodesPlaced (self.at + 1) result }
     {
         let counted = self.take_count(payload, row, missing, out_of_range);
         let ByteTaken::Byte(count, cursor) = counted else {
@@ -207,7 +207,7 @@ impl Cursor {
 
     // A list of codes whose count is the first of its command.
     pub fn take_first_codes(self, payload: &[u8], row: usize) -> ListTaken
-        ensures { (readCodes 9 10 ((boundsAt row).least to (boundsAt row).greatest) (drop self.at payload.now) ≡ codesTaken payload.now result) × CodesPlaced (self.at + 1) result }
+        ensures { (read_codes 9 10 ((bounds_at row).least to (bounds_at row).greatest) (drop self.at payload.now) ≡ codes_taken payload.now result) × CodesPlaced (self.at + 1) result }
     {
         self.take_u16_list(
             payload,
@@ -219,7 +219,7 @@ impl Cursor {
 
     // One whose count is the second.
     pub fn take_second_codes(self, payload: &[u8], row: usize) -> ListTaken
-        ensures { (readCodes 11 12 ((boundsAt row).least to (boundsAt row).greatest) (drop self.at payload.now) ≡ codesTaken payload.now result) × CodesPlaced (self.at + 1) result }
+        ensures { (read_codes 11 12 ((bounds_at row).least to (bounds_at row).greatest) (drop self.at payload.now) ≡ codes_taken payload.now result) × CodesPlaced (self.at + 1) result }
     {
         self.take_u16_list(
             payload,
@@ -231,7 +231,7 @@ impl Cursor {
 
     // Bit 7 set: one byte of block number follows. Bit 7 clear: two bytes. The answer tells which it was.
     pub fn take_element(self, payload: &[u8]) -> ElementTaken
-        ensures { (readElement (drop self.at payload.now) ≡ elementTaken payload.now result) × ElementPlaced payload.now self.at result }
+        ensures { (read_element (drop self.at payload.now) ≡ element_taken payload.now result) × ElementPlaced payload.now self.at result }
     {
         let at = self.at;
         if payload.len() <= at {
@@ -255,7 +255,7 @@ impl Cursor {
 
     // The elements behind their count.
     pub fn take_elements(self, payload: &[u8], count: u8) -> BlocksTaken
-        ensures { (readEach count (drop self.at payload.now) ≡ elementsTaken payload.now result) × ElementsPlaced payload.now self.at result }
+        ensures { (read_each count (drop self.at payload.now) ≡ elements_taken payload.now result) × ElementsPlaced payload.now self.at result }
     {
         let start = self.at;
         let mut at = start;
@@ -285,7 +285,7 @@ impl Cursor {
     // may then lack its third. `taken` is the place of the last byte taken; behind such an element it is the payload's length.
     fn take_few(self, payload: &[u8], count: u8) -> BlocksTaken
         requires { (0 < count) × (0 < self.at) × (self.at ≤ length payload.now) }
-        ensures { (readEach count (drop self.at payload.now) ≡ elementsTaken payload.now result) × ElementsPlaced payload.now self.at result }
+        ensures { (read_each count (drop self.at payload.now) ≡ elements_taken payload.now result) × ElementsPlaced payload.now self.at result }
     {
         let start = self.at;
         let limit = before_two(payload);
@@ -315,7 +315,7 @@ impl Cursor {
 
     // take_block_list, with the count in front of it
     pub fn take_block_list(self, payload: &[u8], missing: u8, out_of_range: u8) -> BlocksTaken
-        ensures { (readElements missing out_of_range true (drop self.at payload.now) ≡ elementsTaken payload.now result) × ElementsPlaced payload.now (self.at + 1) result }
+        ensures { (read_elements missing out_of_range true (drop self.at payload.now) ≡ elements_taken payload.now result) × ElementsPlaced payload.now (self.at + 1) result }
     {
         let counted = self.take_block_count(payload, missing, out_of_range);
         let ByteTaken::Byte(count, cursor) = counted else {
@@ -329,7 +329,7 @@ impl Cursor {
 
     // The blocks of a secure command: their count is the first.
     pub fn take_first_blocks(self, payload: &[u8]) -> BlocksTaken
-        ensures { (readElements 9 10 true (drop self.at payload.now) ≡ elementsTaken payload.now result) × ElementsPlaced payload.now (self.at + 1) result }
+        ensures { (read_elements 9 10 true (drop self.at payload.now) ≡ elements_taken payload.now result) × ElementsPlaced payload.now (self.at + 1) result }
     {
         self.take_block_list(
             payload,
@@ -340,7 +340,7 @@ impl Cursor {
 
     // Blocks behind a list of codes.
     pub fn take_second_blocks(self, payload: &[u8]) -> BlocksTaken
-        ensures { (readElements 11 12 true (drop self.at payload.now) ≡ elementsTaken payload.now result) × ElementsPlaced payload.now (self.at + 1) result }
+        ensures { (read_elements 11 12 true (drop self.at payload.now) ≡ elements_taken payload.now result) × ElementsPlaced payload.now (self.at + 1) result }
     {
         self.take_block_list(
             payload,
@@ -351,7 +351,7 @@ impl Cursor {
 
     // 16 bytes for each block.
     pub fn take_data(self, payload: &[u8], blocks: usize) -> ListTaken
-        ensures { (readData true blocks (drop self.at payload.now) ≡ dataTaken payload.now result) × DataPlaced self.at blocks result }
+        ensures { (read_data true blocks (drop self.at payload.now) ≡ data_taken payload.now result) × DataPlaced self.at blocks result }
     {
         let start = self.at;
         let left = self.left(payload);
@@ -390,14 +390,14 @@ fn before_two(payload: &[u8]) -> usize
 
 // The bytes of an element, by its first.
 fn element_size(header: u8) -> usize
-    ensures { result ≡ elementSize header }
+    ensures { result ≡ element_size header }
 {
     3 - (header >> 7) as usize
 }
 
 // Why no element is whole behind a place with fewer than two bytes behind it. Only a long element that lacks its third byte takes the place to the payload's length.
 fn cut_off(payload: &[u8], taken: usize) -> u8
-    ensures { (length payload.now ≤ taken → result ≡ 16) × (taken < length payload.now → length payload.now < taken + 3 → readElement (drop (taken + 1) payload.now) ≡ refuse result) }
+    ensures { (length payload.now ≤ taken → result ≡ 16) × (taken < length payload.now → length payload.now < taken + 3 → read_element (drop (taken + 1) payload.now) ≡ refuse result) }
 {
     if payload.len() <= taken {
         return error::LONG_BLOCK_NUMBER_MISSING;

@@ -1,11 +1,11 @@
 // The steps of the fixed bytes that end a layout. They are measured first, and only then are their values tested.
 ghost use Rattle.std.specs.Prelude.{◌≡◌, ◌++◌, ◌+◌, ◌-◌, ◌<◌, ◌≤◌, length, take, drop};
-ghost use Rattle.felica_format.specs.Basic.{zeros, wordAt};
-ghost use Rattle.felica_format.specs.Layout.{bare, bytes, word, words, reserved, polling, parameter, nothing, aPackage};
-ghost use Rattle.felica_format.specs.Read.{zeroAt, readValues, readEnding};
+ghost use Rattle.felica_format.specs.Basic.{zeros, word_at};
+ghost use Rattle.felica_format.specs.Layout.{bare, bytes, word, words, reserved, polling, parameter, nothing, a_package};
+ghost use Rattle.felica_format.specs.Read.{zero_at, read_values, read_ending};
 ghost use Rattle.felica_command.specs.Meaning.{part};
-ghost use Rattle.felica_format.specs.Command.{noFields};
-ghost use Rattle.felica_cursor.specs.Answers.{asStep, MovesTo, movedWith, challengeTaken, wordTaken, wordsTaken, pollingTaken, parameterTaken};
+ghost use Rattle.felica_format.specs.Command.{no_fields};
+ghost use Rattle.felica_cursor.specs.Answers.{as_step, MovesTo, moved_with, challenge_taken, word_taken, words_taken, polling_taken, parameter_taken};
 ghost use Rattle.felica_cursor.specs.Steps.{measured, ChallengeZero};
 
 use crate::answers::{ChallengeTaken, Moved, ParameterTaken, PollingTaken, WordTaken, WordsTaken};
@@ -20,7 +20,7 @@ use felica_format::error;
 // The two-byte number at a place.
 fn word_at(payload: &[u8], at: usize) -> u16
     requires { at + 2 ≤ length payload.now }
-    ensures { result ≡ wordAt payload.now at }
+    ensures { result ≡ word_at payload.now at }
 {
     word_of(payload[at], payload[at + 1])
 }
@@ -28,7 +28,7 @@ fn word_at(payload: &[u8], at: usize) -> u16
 // The bytes at a place are all 00.
 fn all_zero(payload: &[u8], at: usize, count: usize) -> bool
     requires { at + count ≤ length payload.now }
-    ensures { result ≡ zeroAt count payload.now at }
+    ensures { result ≡ zero_at count payload.now at }
 {
     let mut i: usize = 0;
     while i < count {
@@ -57,7 +57,7 @@ fn challenge_at(payload: &[u8], at: usize, count: usize) -> [u8; 16]
 // The system code has its high byte first.
 fn polling_at(payload: &[u8], at: usize) -> PollingTaken
     requires { at + 4 ≤ length payload.now }
-    ensures { (readValues polling (drop at payload.now) ≡ asStep payload.now (pollingTaken result)) × MovesTo (at + 4) (pollingTaken result) }
+    ensures { (read_values polling (drop at payload.now) ≡ as_step payload.now (polling_taken result)) × MovesTo (at + 4) (polling_taken result) }
 {
     let request_code = payload[at + 2];
     if !is_polling_request_code(request_code) {
@@ -76,7 +76,7 @@ fn polling_at(payload: &[u8], at: usize) -> PollingTaken
 // D0 to D3 are tested, then D6 and D7, then the encryption type, then the packet type.
 fn parameter_at(payload: &[u8], at: usize) -> ParameterTaken
     requires { at + 8 ≤ length payload.now }
-    ensures { (readValues parameter (drop at payload.now) ≡ asStep payload.now (parameterTaken result)) × MovesTo (at + 8) (parameterTaken result) }
+    ensures { (read_values parameter (drop at payload.now) ≡ as_step payload.now (parameter_taken result)) × MovesTo (at + 8) (parameter_taken result) }
 {
     if !all_zero(payload, at, 4) {
         return ParameterTaken::Refused(error::RESERVED_NOT_ZERO);
@@ -98,7 +98,7 @@ fn parameter_at(payload: &[u8], at: usize) -> ParameterTaken
 impl Cursor {
     // The bytes that end a layout are measured: the position stays.
     pub fn measure(self, payload: &[u8], size: usize) -> Moved
-        ensures { (measured size (drop self.at payload.now) ≡ asStep payload.now (movedWith size result)) × MovesTo self.at (movedWith size result) }
+        ensures { (measured size (drop self.at payload.now) ≡ as_step payload.now (moved_with size result)) × MovesTo self.at (moved_with size result) }
     {
         let left = self.left(payload);
         if left < size {
@@ -112,14 +112,14 @@ impl Cursor {
 
     // ensure_no_trailing_bytes
     pub fn take_end(self, payload: &[u8]) -> Moved
-        ensures { (readEnding bare nothing (drop self.at payload.now) ≡ asStep payload.now (movedWith noFields result)) × MovesTo self.at (movedWith noFields result) }
+        ensures { (read_ending bare nothing (drop self.at payload.now) ≡ as_step payload.now (moved_with no_fields result)) × MovesTo self.at (moved_with no_fields result) }
     {
         self.measure(payload, 0)
     }
 
     // Two reserved bytes.
     pub fn take_reserved(self, payload: &[u8]) -> Moved
-        ensures { (readEnding reserved nothing (drop self.at payload.now) ≡ asStep payload.now (movedWith noFields result)) × MovesTo (self.at + 2) (movedWith noFields result) }
+        ensures { (read_ending reserved nothing (drop self.at payload.now) ≡ as_step payload.now (moved_with no_fields result)) × MovesTo (self.at + 2) (moved_with no_fields result) }
     {
         let at = self.at;
         let step = self.measure(payload, 2);
@@ -134,7 +134,7 @@ impl Cursor {
 
     fn take_challenge(self, payload: &[u8], size: usize) -> ChallengeTaken
         requires { (0 < size) × (size ≤ 16) }
-        ensures { (readEnding (bytes size) nothing (drop self.at payload.now) ≡ asStep payload.now (challengeTaken result)) × MovesTo (self.at + size) (challengeTaken result) × ChallengeZero result }
+        ensures { (read_ending (bytes size) nothing (drop self.at payload.now) ≡ as_step payload.now (challenge_taken result)) × MovesTo (self.at + size) (challenge_taken result) × ChallengeZero result }
     {
         let at = self.at;
         let step = self.measure(payload, size);
@@ -153,21 +153,21 @@ impl Cursor {
 
     // The challenge of Authentication1 and 2.
     pub fn take_challenge_8(self, payload: &[u8]) -> ChallengeTaken
-        ensures { (readEnding (bytes 8) nothing (drop self.at payload.now) ≡ asStep payload.now (challengeTaken result)) × MovesTo (self.at + 8) (challengeTaken result) × ChallengeZero result }
+        ensures { (read_ending (bytes 8) nothing (drop self.at payload.now) ≡ as_step payload.now (challenge_taken result)) × MovesTo (self.at + 8) (challenge_taken result) × ChallengeZero result }
     {
         self.take_challenge(payload, 8)
     }
 
     // The challenge of Authentication1 v2 and 2 v2.
     pub fn take_challenge_16(self, payload: &[u8]) -> ChallengeTaken
-        ensures { (readEnding (bytes 16) nothing (drop self.at payload.now) ≡ asStep payload.now (challengeTaken result)) × MovesTo (self.at + 16) (challengeTaken result) × ChallengeZero result }
+        ensures { (read_ending (bytes 16) nothing (drop self.at payload.now) ≡ as_step payload.now (challenge_taken result)) × MovesTo (self.at + 16) (challenge_taken result) × ChallengeZero result }
     {
         self.take_challenge(payload, 16)
     }
 
     // Issue id and issue parameter, with a package behind them.
     pub fn take_issue(self, payload: &[u8]) -> ChallengeTaken
-        ensures { (readEnding (bytes 16) aPackage (drop self.at payload.now) ≡ asStep payload.now (challengeTaken result)) × MovesTo (self.at + 16) (challengeTaken result) × ChallengeZero result }
+        ensures { (read_ending (bytes 16) a_package (drop self.at payload.now) ≡ as_step payload.now (challenge_taken result)) × MovesTo (self.at + 16) (challenge_taken result) × ChallengeZero result }
     {
         let at = self.at;
         let left = self.left(payload);
@@ -186,7 +186,7 @@ impl Cursor {
 
     // A two-byte number.
     pub fn take_word(self, payload: &[u8]) -> WordTaken
-        ensures { (readEnding word nothing (drop self.at payload.now) ≡ asStep payload.now (wordTaken result)) × MovesTo (self.at + 2) (wordTaken result) }
+        ensures { (read_ending word nothing (drop self.at payload.now) ≡ as_step payload.now (word_taken result)) × MovesTo (self.at + 2) (word_taken result) }
     {
         let at = self.at;
         let step = self.measure(payload, 2);
@@ -198,7 +198,7 @@ impl Cursor {
 
     // A two-byte number, with a package behind it.
     pub fn take_packaged_word(self, payload: &[u8]) -> WordTaken
-        ensures { (readEnding word aPackage (drop self.at payload.now) ≡ asStep payload.now (wordTaken result)) × MovesTo (self.at + 2) (wordTaken result) }
+        ensures { (read_ending word a_package (drop self.at payload.now) ≡ as_step payload.now (word_taken result)) × MovesTo (self.at + 2) (word_taken result) }
     {
         let at = self.at;
         let left = self.left(payload);
@@ -210,7 +210,7 @@ impl Cursor {
 
     // Two two-byte numbers.
     pub fn take_words(self, payload: &[u8]) -> WordsTaken
-        ensures { (readEnding words nothing (drop self.at payload.now) ≡ asStep payload.now (wordsTaken result)) × MovesTo (self.at + 4) (wordsTaken result) }
+        ensures { (read_ending words nothing (drop self.at payload.now) ≡ as_step payload.now (words_taken result)) × MovesTo (self.at + 4) (words_taken result) }
     {
         let at = self.at;
         let step = self.measure(payload, 4);
@@ -226,7 +226,7 @@ impl Cursor {
 
     // System code, request code and time slots.
     pub fn take_polling(self, payload: &[u8]) -> PollingTaken
-        ensures { (readEnding polling nothing (drop self.at payload.now) ≡ asStep payload.now (pollingTaken result)) × MovesTo (self.at + 4) (pollingTaken result) }
+        ensures { (read_ending polling nothing (drop self.at payload.now) ≡ as_step payload.now (polling_taken result)) × MovesTo (self.at + 4) (polling_taken result) }
     {
         let at = self.at;
         let step = self.measure(payload, 4);
@@ -238,7 +238,7 @@ impl Cursor {
 
     // The two types between reserved bytes.
     pub fn take_parameter(self, payload: &[u8]) -> ParameterTaken
-        ensures { (readEnding parameter nothing (drop self.at payload.now) ≡ asStep payload.now (parameterTaken result)) × MovesTo (self.at + 8) (parameterTaken result) }
+        ensures { (read_ending parameter nothing (drop self.at payload.now) ≡ as_step payload.now (parameter_taken result)) × MovesTo (self.at + 8) (parameter_taken result) }
     {
         let at = self.at;
         let step = self.measure(payload, 8);

@@ -7,87 +7,87 @@ use mathlib.Core.List.{List, [], ◌∷◌}
 use mathlib.Core.Option.{some, none}
 use lib.ListN.{length, get_or, drop}
 use borrow.Author.Tests.{lt-ltb, le-ltb, le-leb, lt-leb}
-use Rattle.felica_format.specs.Basic.{◌and◌, wordAt, Step, taken, refuse, bind}
+use Rattle.felica_format.specs.Basic.{◌and◌, word_at, Step, taken, refuse, bind}
 use Rattle.felica_format.specs.Command.{Formed}
-use Rattle.felica_format.specs.Read.{wordsOf, readElement, readEach}
-use Rattle.felica_format.proofs.Steps.{bind-taken, taken-value}
-use Rattle.felica_command.specs.Meaning.{valueOr}
+use Rattle.felica_format.specs.Read.{words_of, read_element, read_each}
+use Rattle.felica_format.proofs.Steps.{bind_taken, taken_value}
+use Rattle.felica_command.specs.Meaning.{value_or}
 use Rattle.felica_command.specs.declared.command.Part.{Part}
-use Rattle.felica_entries.specs.Entries.{codeEntry, valueOf, elementBehind, elementEntry, CodeOfList, ElementOfList}
-use Rattle.felica_cursor.proofs.Laws.{word-drop}
+use Rattle.felica_entries.specs.Entries.{code_entry, value_of, element_behind, element_entry, CodeOfList, ElementOfList}
+use Rattle.felica_cursor.proofs.Laws.{word_drop}
 
 -- where there is no entry, and where there is
-pub no-code : (s : List ℕ) (p : Part) (i : ℕ) → p.count ≤ i → codeEntry s p i ≡ none
-unfolding codeEntry ◌and◌
-no-code s p i h = rw (le-ltb i p.count h)
+pub no_code : (s : List ℕ) (p : Part) (i : ℕ) → p.count ≤ i → code_entry s p i ≡ none
+unfolding code_entry ◌and◌
+no_code s p i h = rw (le-ltb i p.count h)
 
-pub no-room : (s : List ℕ) (p : Part) (i : ℕ) → i < p.count → length s < p.start + 2 * i + 2 → codeEntry s p i ≡ none
-unfolding codeEntry ◌and◌
-no-room s p i h g = rw (lt-ltb i p.count h, lt-leb (p.start + 2 * i + 2) (length s) g)
+pub no_room : (s : List ℕ) (p : Part) (i : ℕ) → i < p.count → length s < p.start + 2 * i + 2 → code_entry s p i ≡ none
+unfolding code_entry ◌and◌
+no_room s p i h g = rw (lt-ltb i p.count h, lt-leb (p.start + 2 * i + 2) (length s) g)
 
-pub one-code : (s : List ℕ) (p : Part) (i : ℕ) → i < p.count → p.start + 2 * i + 2 ≤ length s → codeEntry s p i ≡ some (wordAt s (p.start + 2 * i))
-unfolding codeEntry ◌and◌
-one-code s p i h g = rw (lt-ltb i p.count h, le-leb (p.start + 2 * i + 2) (length s) g)
+pub one_code : (s : List ℕ) (p : Part) (i : ℕ) → i < p.count → p.start + 2 * i + 2 ≤ length s → code_entry s p i ≡ some (word_at s (p.start + 2 * i))
+unfolding code_entry ◌and◌
+one_code s p i h g = rw (lt-ltb i p.count h, le-leb (p.start + 2 * i + 2) (length s) g)
 
-pub no-element : (s : List ℕ) (p : Part) (i : ℕ) → p.count ≤ i → elementEntry s p i ≡ none
-unfolding elementEntry
-no-element s p i h = rw (le-ltb i p.count h)
+pub no_element : (s : List ℕ) (p : Part) (i : ℕ) → p.count ≤ i → element_entry s p i ≡ none
+unfolding element_entry
+no_element s p i h = rw (le-ltb i p.count h)
 
-pub one-element : (s : List ℕ) (p : Part) (i : ℕ) → i < p.count → elementEntry s p i ≡ valueOf (elementBehind i (drop p.start s))
-unfolding elementEntry
-one-element s p i h = rw (lt-ltb i p.count h)
+pub one_element_read : (s : List ℕ) (p : Part) (i : ℕ) → i < p.count → element_entry s p i ≡ value_of (element_behind i (drop p.start s))
+unfolding element_entry
+one_element_read s p i h = rw (lt-ltb i p.count h)
 
 -- an element is walked over
-past : (e : Formed) (x : Step (List Formed)) → bind (bind x λ es t. taken (e ∷ es) t) (λ before rest. readElement rest) ≡ bind x (λ before rest. readElement rest)
+past : (e : Formed) (x : Step (List Formed)) → bind (bind x λ es t. taken (e ∷ es) t) (λ before rest. read_element rest) ≡ bind x (λ before rest. read_element rest)
 unfolding bind
 past e (taken es r) = refl
 past e (refuse n) = refl
 
-pub behind-none : (l : List ℕ) → elementBehind 0 l ≡ readElement l
-unfolding readEach bind
-behind-none l = refl
+pub behind_none : (l : List ℕ) → element_behind 0 l ≡ read_element l
+unfolding read_each bind
+behind_none l = refl
 
-pub behind-more : (k n : ℕ) (l : List ℕ) (e : Formed) (r : List ℕ) → k ≡ suc n → readElement l ≡ taken e r → elementBehind k l ≡ elementBehind n r
-unfolding readEach bind
-behind-more k n l e r p q = rw (p, q) (past e (readEach n r))
+pub behind_more : (k n : ℕ) (l : List ℕ) (e : Formed) (r : List ℕ) → k ≡ suc n → read_element l ≡ taken e r → element_behind k l ≡ element_behind n r
+unfolding read_each bind
+behind_more k n l e r p q = rw (p, q) (past e (read_each n r))
 
-pub behind-refused : (k n : ℕ) (l : List ℕ) (g : ℕ) → k ≡ suc n → readElement l ≡ refuse g → elementBehind k l ≡ refuse g
-unfolding readEach bind
-behind-refused k n l g p q = rw (p, q)
+pub behind_refused : (k n : ℕ) (l : List ℕ) (g : ℕ) → k ≡ suc n → read_element l ≡ refuse g → element_behind k l ≡ refuse g
+unfolding read_each bind
+behind_refused k n l g p q = rw (p, q)
 
 -- the codes of a list
-codes-get : (n : ℕ) (l : List ℕ) (i : ℕ) → i < n → get_or (wordsOf n l) i 0 ≡ wordAt l (2 * i)
-unfolding wordsOf
-codes-get zero l i h = absurd (omega arith)
-codes-get (suc n) l zero h = refl
-codes-get (suc n) l (suc i) h =
+codes_get : (n : ℕ) (l : List ℕ) (i : ℕ) → i < n → get_or (words_of n l) i 0 ≡ word_at l (2 * i)
+unfolding words_of
+codes_get zero l i h = absurd (omega arith)
+codes_get (suc n) l zero h = refl
+codes_get (suc n) l (suc i) h =
     let e : 2 + 2 * i ≡ 2 * suc i = omega arith in
-    codes-get n (drop 2 l) i (omega arith) ∙ word-drop l 2 (2 * i) ∙ ap (wordAt l) e
+    codes_get n (drop 2 l) i (omega arith) ∙ word_drop l 2 (2 * i) ∙ ap (word_at l) e
 
-pub code-of-list : CodeOfList
-code-of-list s p i inside h = one-code s p i h (omega arith) ∙ ap some (sym (codes-get p.count (drop p.start s) i h ∙ word-drop s p.start (2 * i)))
+pub code_of_list : CodeOfList
+code_of_list s p i inside h = one_code s p i h (omega arith) ∙ ap some (sym (codes_get p.count (drop p.start s) i h ∙ word_drop s p.start (2 * i)))
 
 -- the elements of a list
-behind-get : (n : ℕ) (l : List ℕ) (es : List Formed) (r : List ℕ) (d : Formed) (i : ℕ) → readEach n l ≡ taken es r → i < n
-    → valueOf (elementBehind i l) ≡ some (get_or es i d)
-unfolding readEach
-behind-get zero l es r d i took h = absurd (omega arith)
-behind-get (suc n) l es r d zero took h =
-    let first = bind-taken _ _ took in
-    let rest = bind-taken _ _ first.3 in
-    let value = taken-value rest.3 in
-    ap valueOf (behind-none l ∙ first.2) ∙ ap (λ (x : List Formed). some (get_or x 0 d)) value
-behind-get (suc n) l es r d (suc i) took h =
-    let first = bind-taken _ _ took in
-    let rest = bind-taken _ _ first.3 in
-    let value = taken-value rest.3 in
-    ap valueOf (behind-more (suc i) i l first.0 first.1 refl first.2) ∙
-    behind-get n first.1 rest.0 rest.1 d i rest.2 (omega arith) ∙ ap (λ (x : List Formed). some (get_or x (suc i) d)) value
+behind_get : (n : ℕ) (l : List ℕ) (es : List Formed) (r : List ℕ) (d : Formed) (i : ℕ) → read_each n l ≡ taken es r → i < n
+    → value_of (element_behind i l) ≡ some (get_or es i d)
+unfolding read_each
+behind_get zero l es r d i took h = absurd (omega arith)
+behind_get (suc n) l es r d zero took h =
+    let first = bind_taken _ _ took in
+    let rest = bind_taken _ _ first.3 in
+    let value = taken_value rest.3 in
+    ap value_of (behind_none l ∙ first.2) ∙ ap (λ (x : List Formed). some (get_or x 0 d)) value
+behind_get (suc n) l es r d (suc i) took h =
+    let first = bind_taken _ _ took in
+    let rest = bind_taken _ _ first.3 in
+    let value = taken_value rest.3 in
+    ap value_of (behind_more (suc i) i l first.0 first.1 refl first.2) ∙
+    behind_get n first.1 rest.0 rest.1 d i rest.2 (omega arith) ∙ ap (λ (x : List Formed). some (get_or x (suc i) d)) value
 
-element-of-step : (s : List ℕ) (p : Part) (i : ℕ) (d : Formed) (x : Step (List Formed)) → readEach p.count (drop p.start s) ≡ x
-    → length (valueOr [] x) ≡ p.count → i < p.count → elementEntry s p i ≡ some (get_or (valueOr [] x) i d)
-element-of-step s p i d (taken es r) is counted h = one-element s p i h ∙ behind-get p.count (drop p.start s) es r d i is h
-element-of-step s p i d (refuse n) is counted h = absurd (omega (arith, counted))
+element_of_step : (s : List ℕ) (p : Part) (i : ℕ) (d : Formed) (x : Step (List Formed)) → read_each p.count (drop p.start s) ≡ x
+    → length (value_or [] x) ≡ p.count → i < p.count → element_entry s p i ≡ some (get_or (value_or [] x) i d)
+element_of_step s p i d (taken es r) is counted h = one_element_read s p i h ∙ behind_get p.count (drop p.start s) es r d i is h
+element_of_step s p i d (refuse n) is counted h = absurd (omega (arith, counted))
 
-pub element-of-list : ElementOfList
-element-of-list s p i d counted h = element-of-step s p i d (readEach p.count (drop p.start s)) refl counted h
+pub element_of_list : ElementOfList
+element_of_list s p i d counted h = element_of_step s p i d (read_each p.count (drop p.start s)) refl counted h

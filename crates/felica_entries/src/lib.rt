@@ -2,7 +2,7 @@
 #![tactic(auto)]
 
 ghost use Rattle.std.specs.Prelude.{◌≡◌};
-ghost use Rattle.felica_entries.specs.Entries.{codeEntry, elementEntry, wordFound, serviceCodeFound, nodeCodeFound, blockFound};
+ghost use Rattle.felica_entries.specs.Entries.{code_entry, element_entry, word_found, service_code_found, node_code_found, block_found};
 
 use felica_command::command::Part;
 use felica_command::types::{BlockListElement, NodeCode, ServiceCode};
@@ -35,7 +35,7 @@ enum WordEntry {
 }
 
 fn word_entry(payload: &[u8], list: Part, i: usize) -> WordEntry
-    ensures { wordFound result ≡ codeEntry payload.now list i }
+    ensures { word_found result ≡ code_entry payload.now list i }
 {
     let start = list.start;
     if list.count <= i {
@@ -53,7 +53,7 @@ fn word_entry(payload: &[u8], list: Part, i: usize) -> WordEntry
 }
 
 pub fn service_code_at(payload: &[u8], list: Part, i: usize) -> ServiceCodeAt
-    ensures { serviceCodeFound result ≡ codeEntry payload.now list i }
+    ensures { service_code_found result ≡ code_entry payload.now list i }
 {
     let entry = word_entry(payload, list, i);
     match entry {
@@ -63,7 +63,7 @@ pub fn service_code_at(payload: &[u8], list: Part, i: usize) -> ServiceCodeAt
 }
 
 pub fn node_code_at(payload: &[u8], list: Part, i: usize) -> NodeCodeAt
-    ensures { nodeCodeFound result ≡ codeEntry payload.now list i }
+    ensures { node_code_found result ≡ code_entry payload.now list i }
 {
     let entry = word_entry(payload, list, i);
     match entry {
@@ -74,7 +74,7 @@ pub fn node_code_at(payload: &[u8], list: Part, i: usize) -> NodeCodeAt
 
 // The elements in front of it are walked over, since each has two bytes or three.
 pub fn block_at(payload: &[u8], list: Part, i: usize) -> BlockAt
-    ensures { blockFound result ≡ elementEntry payload.now list i }
+    ensures { block_found result ≡ element_entry payload.now list i }
 {
     if list.count <= i {
         return BlockAt::None;

@@ -1,44 +1,44 @@
 -- The lists of a command as text. Entries are read one after the other, as far as the bytes have them whole.
 -- Assumes nothing.
 use Rattle.std.specs.Prelude.{ℕ, zero, suc, ◌%◌, List, [], ◌∷◌, ◌++◌, drop}
-use Rattle.felica_format.specs.Basic.{Step, taken, refuse, wordOf}
+use Rattle.felica_format.specs.Basic.{Step, taken, refuse, word_of}
 use Rattle.felica_format.specs.Command.{Element, Formed}
-use Rattle.felica_format.specs.Read.{readElement}
+use Rattle.felica_format.specs.Read.{read_element}
 use Rattle.felica_command.specs.declared.command.Part.{Part}
-use Rattle.felica_text.specs.Text.{digitText, wordText, parted}
+use Rattle.felica_text.specs.Text.{digit_text, word_text, parted}
 use Rattle.felica_fields.specs.declared.entry.CodeRead.{CodeRead}
 use Rattle.felica_fields.specs.declared.entry.CodeRead.TheVariants.{Code, None as NoCode}
 
 -- one code of a list; 13: code list cut off
-unfoldable pub readCode : List ℕ → Step ℕ
-readCode [] = refuse 13
-readCode (low ∷ []) = refuse 13
-readCode (low ∷ high ∷ s) = taken (wordOf low high) s
+unfoldable pub read_code : List ℕ → Step ℕ
+read_code [] = refuse 13
+read_code (low ∷ []) = refuse 13
+read_code (low ∷ high ∷ s) = taken (word_of low high) s
 
 -- what the answer of a reader of one code says of the bytes s
-abbrev pub codeRead : List ℕ → CodeRead → Step ℕ
-codeRead s (Code code next) = taken code (drop next s)
-codeRead s NoCode = refuse 13
+abbrev pub code_read : List ℕ → CodeRead → Step ℕ
+code_read s (Code code next) = taken code (drop next s)
+code_read s NoCode = refuse 13
 
 -- number/place/mode, in four, one and one digits; 47 is the code of `/`
-abbrev pub elementText : Element → List ℕ
-elementText e = wordText e.number ++ (47 ∷ digitText (e.place % 16) ∷ 47 ∷ digitText (e.mode % 16) ∷ [])
+abbrev pub element_text : Element → List ℕ
+element_text e = word_text e.number ++ (47 ∷ digit_text (e.place % 16) ∷ 47 ∷ digit_text (e.mode % 16) ∷ [])
 
 -- the same of either form
-abbrev pub formedText : Formed → List ℕ
-formedText f = elementText f.element
+abbrev pub formed_text : Formed → List ℕ
+formed_text f = element_text f.element
 
-abbrev pub ifTaken : {A B : Type 0} → Step A → (A → List ℕ → B) → B → B
-ifTaken (taken a rest) f other = f a rest
-ifTaken (refuse n) f other = other
+abbrev pub if_taken : {A B : Type 0} → Step A → (A → List ℕ → B) → B → B
+if_taken (taken a rest) f other = f a rest
+if_taken (refuse n) f other = other
 
 -- the first n entries, as far as the bytes have them whole
-unfoldable pub entriesOf : {A : Type 0} → (List ℕ → Step A) → ℕ → List ℕ → List A
-entriesOf read zero s = []
-entriesOf read (suc n) s = ifTaken (read s) (λ a rest. a ∷ entriesOf read n rest) []
+unfoldable pub entries_of : {A : Type 0} → (List ℕ → Step A) → ℕ → List ℕ → List A
+entries_of read zero s = []
+entries_of read (suc n) s = if_taken (read s) (λ a rest. a ∷ entries_of read n rest) []
 
-abbrev pub codesText : List ℕ → Part → List ℕ
-codesText s p = parted wordText (entriesOf readCode p.count (drop p.start s))
+abbrev pub codes_text : List ℕ → Part → List ℕ
+codes_text s p = parted word_text (entries_of read_code p.count (drop p.start s))
 
-abbrev pub blocksText : List ℕ → Part → List ℕ
-blocksText s p = parted formedText (entriesOf readElement p.count (drop p.start s))
+abbrev pub blocks_text : List ℕ → Part → List ℕ
+blocks_text s p = parted formed_text (entries_of read_element p.count (drop p.start s))

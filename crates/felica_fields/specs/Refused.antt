@@ -4,13 +4,13 @@ use Rattle.std.specs.Prelude.{ℕ, List, ◌++◌}
 use Rattle.std.proofs.Math.Option.{Option, none, some}
 use Rattle.felica_command.specs.declared.command.Refusal.{Refusal}
 use Rattle.felica_command.specs.declared.command.Refusal.TheVariants.{Number, OfCommand}
-use Rattle.felica_text.specs.Text.{text, byteText, decimalText}
+use Rattle.felica_text.specs.Text.{text, byte_text, decimal_text}
 
 -- "A refusal gives its number and, from 4 up, the command code"
-abbrev pub refusedText : ℕ → Option ℕ → List ℕ
-refusedText n none = text "NO " ++ (decimalText n ++ text " --")
-refusedText n (some code) = text "NO " ++ (decimalText n ++ (text " " ++ byteText code))
+abbrev pub refused_text : ℕ → Option ℕ → List ℕ
+refused_text n none = text "NO " ++ (decimal_text n ++ text " --")
+refused_text n (some code) = text "NO " ++ (decimal_text n ++ (text " " ++ byte_text code))
 
-abbrev pub refusalText : Refusal → List ℕ
-refusalText (Number n) = refusedText n none
-refusalText (OfCommand n code) = refusedText n (some code)
+abbrev pub refusal_text : Refusal → List ℕ
+refusal_text (Number n) = refused_text n none
+refusal_text (OfCommand n code) = refused_text n (some code)

@@ -1,6 +1,6 @@
 // The codes of a list, read from the payload one after the other.
 ghost use Rattle.std.specs.Prelude.{◌≡◌, drop};
-ghost use Rattle.felica_fields.specs.Entries.{readCode, codeRead};
+ghost use Rattle.felica_fields.specs.Entries.{read_code, code_read};
 
 use felica_cursor::cursor::word_of;
 
@@ -12,7 +12,7 @@ pub(crate) enum CodeRead {
 }
 
 pub(crate) fn code_at(payload: &[u8], at: usize) -> CodeRead
-    ensures { readCode (drop at payload.now) ≡ codeRead payload.now result }
+    ensures { read_code (drop at payload.now) ≡ code_read payload.now result }
 {
     if payload.len() <= at {
         return CodeRead::None;

@@ -1,10 +1,10 @@
 // The lists of a command, read from the payload and put as text: entries parted by commas, and `-` for none.
 ghost use Rattle.std.specs.Prelude.{◌≡◌, drop};
-ghost use Rattle.felica_format.specs.Read.{readElement};
-ghost use Rattle.felica_command.specs.Types.{elementIs};
-ghost use Rattle.felica_text.specs.Text.{wordText, behindCommas};
+ghost use Rattle.felica_format.specs.Read.{read_element};
+ghost use Rattle.felica_command.specs.Types.{element_is};
+ghost use Rattle.felica_text.specs.Text.{word_text, behind_commas};
 ghost use Rattle.felica_put.specs.Put.{buffer, put};
-ghost use Rattle.felica_fields.specs.Entries.{readCode, elementText, formedText, entriesOf, codesText, blocksText};
+ghost use Rattle.felica_fields.specs.Entries.{read_code, element_text, formed_text, entries_of, codes_text, blocks_text};
 
 use crate::entry::{CodeRead, code_at};
 use felica_command::command::Part;
@@ -16,7 +16,7 @@ use felica_text::hex::hex_digit;
 use felica_text::put::put_hex_word;
 
 pub(crate) fn put_codes(out: &mut [u8], at: usize, payload: &[u8], list: Part) -> usize
-    ensures { buffer out.new result ≡ put (buffer out.old at) (codesText payload.now list) }
+    ensures { buffer out.new result ≡ put (buffer out.old at) (codes_text payload.now list) }
 {
     let start = list.start;
     let count = list.count;
@@ -32,7 +32,7 @@ pub(crate) fn put_codes(out: &mut [u8], at: usize, payload: &[u8], list: Part) -
 }
 
 fn put_more_codes(out: &mut [u8], at: usize, payload: &[u8], start: usize, count: usize) -> usize
-    ensures { buffer out.new result ≡ put (buffer out.old at) (behindCommas wordText (entriesOf readCode count (drop start payload.now))) }
+    ensures { buffer out.new result ≡ put (buffer out.old at) (behind_commas word_text (entries_of read_code count (drop start payload.now))) }
 {
     let mut next = at;
     let mut place = start;
@@ -51,7 +51,7 @@ fn put_more_codes(out: &mut [u8], at: usize, payload: &[u8], start: usize, count
 }
 
 pub(crate) fn put_blocks(out: &mut [u8], at: usize, payload: &[u8], list: Part) -> usize
-    ensures { buffer out.new result ≡ put (buffer out.old at) (blocksText payload.now list) }
+    ensures { buffer out.new result ≡ put (buffer out.old at) (blocks_text payload.now list) }
 {
     let start = list.start;
     let count = list.count;
@@ -68,7 +68,7 @@ pub(crate) fn put_blocks(out: &mut [u8], at: usize, payload: &[u8], list: Part) 
 }
 
 fn put_more_blocks(out: &mut [u8], at: usize, payload: &[u8], start: usize, count: usize) -> usize
-    ensures { buffer out.new result ≡ put (buffer out.old at) (behindCommas formedText (entriesOf readElement count (drop start payload.now))) }
+    ensures { buffer out.new result ≡ put (buffer out.old at) (behind_commas formed_text (entries_of read_element count (drop start payload.now))) }
 {
     let mut next = at;
     let mut place = start;
@@ -89,7 +89,7 @@ fn put_more_blocks(out: &mut [u8], at: usize, payload: &[u8], start: usize, coun
 
 // Block number, place in the service code list, access mode.
 fn put_block(out: &mut [u8], at: usize, element: BlockListElement) -> usize
-    ensures { buffer out.new result ≡ put (buffer out.old at) (elementText (elementIs element)) }
+    ensures { buffer out.new result ≡ put (buffer out.old at) (element_text (element_is element)) }
 {
     let number = element.block_number_or_key_version.0;
     let behind_number = put_hex_word(out, at, number);

@@ -1,14 +1,14 @@
 // A refusal as text: `NO`, the number of its ground and the code, or `--` where it has none.
 ghost use Rattle.std.specs.Prelude.{◌≡◌};
 ghost use Rattle.felica_put.specs.Put.{buffer, put};
-ghost use Rattle.felica_fields.specs.Refused.{refusalText};
+ghost use Rattle.felica_fields.specs.Refused.{refusal_text};
 
 use felica_command::command::Refusal;
 use felica_put::{put_byte, put_bytes};
 use felica_text::put::{put_decimal, put_hex_byte};
 
 pub fn put_refusal(out: &mut [u8], at: usize, refusal: Refusal) -> usize
-    ensures { buffer out.new result ≡ put (buffer out.old at) (refusalText refusal) }
+    ensures { buffer out.new result ≡ put (buffer out.old at) (refusal_text refusal) }
 {
     let next = put_bytes(out, at, b"NO ");
     match refusal {

@@ -15,71 +15,71 @@ use borrow.Author.Tests.{eqb-true, eq-eqb, leb-true, le-leb}
 use Rattle.felica_format.specs.declared.classes.Class.{Class}
 use Rattle.felica_format.specs.declared.classes.Class.TheVariants.{Plain, Secure, Unknown}
 use Rattle.felica_format.specs.Basic.{Bytes, Step, taken, refuse}
-use Rattle.felica_format.specs.Command.{Command, elementsOf}
-use Rattle.felica_format.specs.Layout.{Layout, classOf, layoutOf}
-use Rattle.felica_format.specs.Read.{Counted, counted, gives, refused, answerOf, readPlainAs, readSecureAs, readBody, readPayload, readFrame, readSecure}
-use Rattle.felica_format.specs.Write.{Forms, longBytes, longIn, bodyBytes, secureOf, frameOf}
-use Rattle.felica_format.specs.Writable.{bodyOk, fitsClass, writable, shortest, written}
+use Rattle.felica_format.specs.Command.{Command, elements_of}
+use Rattle.felica_format.specs.Layout.{Layout, class_of, layout_of}
+use Rattle.felica_format.specs.Read.{Counted, counted, gives, refused, answer_of, read_plain_as, read_secure_as, read_body, read_payload, read_frame, read_secure}
+use Rattle.felica_format.specs.Write.{Forms, long_bytes, long_in, body_bytes, secure_of, frame_of}
+use Rattle.felica_format.specs.Writable.{body_ok, fits_class, writable, shortest, written}
 use Rattle.felica_format.specs.Demand3.{FrameGives, PayloadGives, HasFrame, HasPayload, MayFollow, Around, FramesAreChoices, PayloadsAreChoices}
 use Rattle.felica_format.specs.Demand3.{ShortFrameAccepted, ShortPayloadAccepted, OtherFramesLonger, OtherPayloadsLonger}
 use Rattle.felica_format.specs.Demand3.{ShortFrameWritten, ShortPayloadWritten, UnwritableExactly, FrameReadBack, PayloadReadBack, TwoFrames, TwoPayloads}
 use Rattle.felica_format.specs.Demand3.{OneFormFrom256}
 use Rattle.felica_format.specs.Long.{FrameLongCounted, PayloadLongCounted, PlainLongCounted}
-use Rattle.felica_format.proofs.Steps.{not-given}
-use Rattle.felica_format.proofs.Tests.{tests, and-left, and-right, and-both}
-use Rattle.felica_format.proofs.Bytes.{allBelow-++, head-below}
-use Rattle.felica_format.proofs.Elements.{by-form, SameOrLonger}
-use Rattle.felica_format.proofs.Ending.{Left, left-none, left-small}
-use Rattle.felica_format.proofs.Body.{Narrow, Body, body-back, body-only, body-small, body-longer, beforeElements, afterElements, body-around}
-use Rattle.felica_format.proofs.Rows.{plain-code, plain-layout, secure-layout, plain-left, secure-left, secure-follows}
+use Rattle.felica_format.proofs.Steps.{not_given}
+use Rattle.felica_format.proofs.Tests.{tests, and_left, and_right, and_both}
+use Rattle.felica_format.proofs.Bytes.{all_below_append, head_below}
+use Rattle.felica_format.proofs.Elements.{by_form, SameOrLonger}
+use Rattle.felica_format.proofs.Ending.{Left, left_none, left_small}
+use Rattle.felica_format.proofs.Body.{Narrow, Body, body_back, body_only, body_small, body_longer, before_elements, after_elements, body_around}
+use Rattle.felica_format.proofs.Rows.{plain_code, plain_layout, secure_layout, plain_left, secure_left, secure_follows}
 
 -- ── what was accepted ───────────────────────────────────────────────────────
-answer-gives : (code : ℕ) (m : Step Counted) (c : Command) (long : ℕ) → answerOf code m ≡ gives c long → (rest : List ℕ) × (m ≡ taken (counted c long) rest)
-answer-gives code (taken r rest) c long e =
+answer_gives : (code : ℕ) (m : Step Counted) (c : Command) (long : ℕ) → answer_of code m ≡ gives c long → (rest : List ℕ) × (m ≡ taken (counted c long) rest)
+answer_gives code (taken r rest) c long e =
     let p : r.command ≡ c = cc in
     let q : r.long ≡ long = cc in
     (rest, λ i. taken (counted (p i) (q i)) rest)
-answer-gives code (refuse n) c long e = absurd (not-given e)
+answer_gives code (refuse n) c long e = absurd (not_given e)
 
-plain-gives : (k : Class) (code : ℕ) (s : List ℕ) (c : Command) (long : ℕ) → readPlainAs k code s ≡ gives c long
-    → (k ≡ Plain) × (rest : List ℕ) × (readBody code (layoutOf code) s ≡ taken (counted c long) rest)
-plain-gives Plain code s c long e = let a = answer-gives code (readBody code (layoutOf code) s) c long e in (refl, a.0, a.1)
-plain-gives Secure code s c long e = absurd (not-given e)
-plain-gives Unknown code s c long e = absurd (not-given e)
+plain_gives : (k : Class) (code : ℕ) (s : List ℕ) (c : Command) (long : ℕ) → read_plain_as k code s ≡ gives c long
+    → (k ≡ Plain) × (rest : List ℕ) × (read_body code (layout_of code) s ≡ taken (counted c long) rest)
+plain_gives Plain code s c long e = let a = answer_gives code (read_body code (layout_of code) s) c long e in (refl, a.0, a.1)
+plain_gives Secure code s c long e = absurd (not_given e)
+plain_gives Unknown code s c long e = absurd (not_given e)
 
 -- the length byte is right, the code plain, and its body was taken
 abbrev pub Opened : ℕ → ℕ → List ℕ → Counted → Type 0
-Opened n code body r = (n ≡ suc (suc (length body))) × (classOf code ≡ Plain) × (rest : List ℕ) × (readBody code (layoutOf code) body ≡ taken r rest)
+Opened n code body r = (n ≡ suc (suc (length body))) × (class_of code ≡ Plain) × (rest : List ℕ) × (read_body code (layout_of code) body ≡ taken r rest)
 
-pub frame-gives : (n code : ℕ) (body : List ℕ) (c : Command) (long : ℕ) → readFrame (n ∷ code ∷ body) ≡ gives c long → Opened n code body (counted c long)
-unfolding readFrame readPayload
-frame-gives n code body c long e = go (eqb n (suc (suc (length body)))) refl e
+pub frame_gives : (n code : ℕ) (body : List ℕ) (c : Command) (long : ℕ) → read_frame (n ∷ code ∷ body) ≡ gives c long → Opened n code body (counted c long)
+unfolding read_frame read_payload
+frame_gives n code body c long e = go (eqb n (suc (suc (length body)))) refl e
   where
-    go : (b : Bool) → eqb n (suc (suc (length body))) ≡ b → cond b (readPayload (code ∷ body)) (refused 2 none) ≡ gives c long → Opened n code body (counted c long)
-    go false size e = absurd (not-given e)
-    go true size e = let g = plain-gives (classOf code) code body c long e in (eqb-true _ _ size, g.0, g.1, g.2)
+    go : (b : Bool) → eqb n (suc (suc (length body))) ≡ b → cond b (read_payload (code ∷ body)) (refused 2 none) ≡ gives c long → Opened n code body (counted c long)
+    go false size e = absurd (not_given e)
+    go true size e = let g = plain_gives (class_of code) code body c long e in (eqb-true _ _ size, g.0, g.1, g.2)
 
-secure-gives : (k : Class) (code : ℕ) (s : List ℕ) (c : Command) (long : ℕ) → readSecureAs k code s ≡ gives c long
-    → (k ≡ Secure) × (rest : List ℕ) × (readBody code (layoutOf code) s ≡ taken (counted c long) rest)
-secure-gives Plain code s c long e = absurd (not-given e)
-secure-gives Secure code s c long e = let a = answer-gives code (readBody code (layoutOf code) s) c long e in (refl, a.0, a.1)
-secure-gives Unknown code s c long e = absurd (not-given e)
+secure_gives : (k : Class) (code : ℕ) (s : List ℕ) (c : Command) (long : ℕ) → read_secure_as k code s ≡ gives c long
+    → (k ≡ Secure) × (rest : List ℕ) × (read_body code (layout_of code) s ≡ taken (counted c long) rest)
+secure_gives Plain code s c long e = absurd (not_given e)
+secure_gives Secure code s c long e = let a = answer_gives code (read_body code (layout_of code) s) c long e in (refl, a.0, a.1)
+secure_gives Unknown code s c long e = absurd (not_given e)
 
 -- an accepted body is a choice of forms of its command, with what is left behind it
 record Accepted (k : Class) (code : ℕ) (s : List ℕ) (c : Command) : Type 0 where
   forms : Forms
   rest : List ℕ
   same : c.code ≡ code
-  class : classOf c.code ≡ k
-  ok : bodyOk (layoutOf c.code) c ≡ true
-  left : Left (layoutOf c.code).behind rest
-  is : s ≡ bodyBytes (layoutOf c.code) forms c ++ rest
+  class : class_of c.code ≡ k
+  ok : body_ok (layout_of c.code) c ≡ true
+  left : Left (layout_of c.code).behind rest
+  is : s ≡ body_bytes (layout_of c.code) forms c ++ rest
 
-accepted : (k : Class) (code : ℕ) (s : List ℕ) (c : Command) (long : ℕ) (rest : List ℕ) → classOf code ≡ k → Narrow (layoutOf code) → Bytes s
-    → readBody code (layoutOf code) s ≡ taken (counted c long) rest → Accepted k code s c
-accepted k code s c long rest class narrow small e = go (body-only (layoutOf code) narrow code s (counted c long) rest small e)
+accepted : (k : Class) (code : ℕ) (s : List ℕ) (c : Command) (long : ℕ) (rest : List ℕ) → class_of code ≡ k → Narrow (layout_of code) → Bytes s
+    → read_body code (layout_of code) s ≡ taken (counted c long) rest → Accepted k code s c
+accepted k code s c long rest class narrow small e = go (body_only (layout_of code) narrow code s (counted c long) rest small e)
   where
-    go : Body (layoutOf code) code s (counted c long) rest → Accepted k code s c
+    go : Body (layout_of code) code s (counted c long) rest → Accepted k code s c
     go b =
         let back = sym b.same in
         record {
@@ -87,24 +87,24 @@ accepted k code s c long rest class narrow small e = go (body-only (layoutOf cod
           rest = rest;
           same = b.same;
           class = rw b.same class;
-          ok = subst (λ (x : ℕ). bodyOk (layoutOf x) c ≡ true) back b.ok;
-          left = subst (λ (x : ℕ). Left (layoutOf x).behind rest) back b.left;
-          is = subst (λ (x : ℕ). s ≡ bodyBytes (layoutOf x) b.forms c ++ rest) back b.is;
+          ok = subst (λ (x : ℕ). body_ok (layout_of x) c ≡ true) back b.ok;
+          left = subst (λ (x : ℕ). Left (layout_of x).behind rest) back b.left;
+          is = subst (λ (x : ℕ). s ≡ body_bytes (layout_of x) b.forms c ++ rest) back b.is;
         }
 
 -- ── frames ──────────────────────────────────────────────────────────────────
 record Framed (s : List ℕ) (c : Command) : Type 0 where
   forms : Forms
-  class : classOf c.code ≡ Plain
-  ok : bodyOk (layoutOf c.code) c ≡ true
-  is : s ≡ frameOf forms c
+  class : class_of c.code ≡ Plain
+  ok : body_ok (layout_of c.code) c ≡ true
+  is : s ≡ frame_of forms c
   short : length s ≤ 255
 
-framed-by : (n code : ℕ) (body : List ℕ) (c : Command) → n ≡ suc (suc (length body)) → n < 256 → Accepted Plain code body c → Framed (n ∷ code ∷ body) c
-unfolding frameOf
-framed-by n code body c size small a =
-    let none : a.rest ≡ [] = plain-left c.code a.rest a.class a.left in
-    let is : body ≡ bodyBytes (layoutOf c.code) a.forms c = a.is ∙ rw (none, append-nil) in
+framed_by : (n code : ℕ) (body : List ℕ) (c : Command) → n ≡ suc (suc (length body)) → n < 256 → Accepted Plain code body c → Framed (n ∷ code ∷ body) c
+unfolding frame_of
+framed_by n code body c size small a =
+    let none : a.rest ≡ [] = plain_left c.code a.rest a.class a.left in
+    let is : body ≡ body_bytes (layout_of c.code) a.forms c = a.is ∙ rw (none, append-nil) in
     record {
       forms = a.forms;
       class = a.class;
@@ -114,260 +114,260 @@ framed-by n code body c size small a =
     }
 
 framed : (s : List ℕ) (c : Command) → FrameGives s c → Framed s c
-unfolding readFrame readPayload
-framed [] c (small, long, e) = absurd (not-given e)
+unfolding read_frame read_payload
+framed [] c (small, long, e) = absurd (not_given e)
 framed (n ∷ []) c (small, long, e) = absurd (empty (eqb n 1) e)
   where
     empty : (b : Bool) → cond b (refused 3 none) (refused 2 none) ≡ gives c long → ⊥
-    empty true e = not-given e
-    empty false e = not-given e
+    empty true e = not_given e
+    empty false e = not_given e
 framed (n ∷ code ∷ body) c (small, long, e) =
-    let (size, class, rest, read) = frame-gives n code body c long e in
-    framed-by n code body c size (head-below 256 n (code ∷ body) small)
-    (accepted Plain code body c long rest class (plain-layout code class) (and-right _ _ (and-right _ _ small)) read)
+    let (size, class, rest, read) = frame_gives n code body c long e in
+    framed_by n code body c size (head_below 256 n (code ∷ body) small)
+    (accepted Plain code body c long rest class (plain_layout code class) (and_right _ _ (and_right _ _ small)) read)
 
-frame-back : (forms : Forms) (c : Command) → classOf c.code ≡ Plain → bodyOk (layoutOf c.code) c ≡ true → length (frameOf forms c) ≤ 255 → FrameGives (frameOf forms c) c
-unfolding readFrame readPayload frameOf
-frame-back forms c class ok short =
-    let l : Layout = layoutOf c.code in
-    let b : List ℕ = bodyBytes l forms c in
-    let narrow = plain-layout c.code class in
-    let code = plain-code c.code class in
-    let long : ℕ = longIn forms (elementsOf c) in
-    let r : readBody c.code l b ≡ taken (counted c long) [] = rw append-nil at (body-back l narrow forms c [] ok (left-none l.behind)) in (
-      and-both (omega tests) (and-both (omega tests) (body-small l narrow forms c ok)),
+frame_back : (forms : Forms) (c : Command) → class_of c.code ≡ Plain → body_ok (layout_of c.code) c ≡ true → length (frame_of forms c) ≤ 255 → FrameGives (frame_of forms c) c
+unfolding read_frame read_payload frame_of
+frame_back forms c class ok short =
+    let l : Layout = layout_of c.code in
+    let b : List ℕ = body_bytes l forms c in
+    let narrow = plain_layout c.code class in
+    let code = plain_code c.code class in
+    let long : ℕ = long_in forms (elements_of c) in
+    let r : read_body c.code l b ≡ taken (counted c long) [] = rw append-nil at (body_back l narrow forms c [] ok (left_none l.behind)) in (
+      and_both (omega tests) (and_both (omega tests) (body_small l narrow forms c ok)),
       long,
       rw (eq-eqb (suc (suc (length b))) (suc (suc (length b))) refl, class, r),
     )
 
-frame-longer : (forms : Forms) (c : Command) → SameOrLonger (frameOf forms c) (frameOf [] c)
-unfolding frameOf
-frame-longer forms c = go (body-longer (layoutOf c.code) forms c)
+frame_longer : (forms : Forms) (c : Command) → SameOrLonger (frame_of forms c) (frame_of [] c)
+unfolding frame_of
+frame_longer forms c = go (body_longer (layout_of c.code) forms c)
   where
-    go : SameOrLonger (bodyBytes (layoutOf c.code) forms c) (bodyBytes (layoutOf c.code) [] c) → SameOrLonger (frameOf forms c) (frameOf [] c)
+    go : SameOrLonger (body_bytes (layout_of c.code) forms c) (body_bytes (layout_of c.code) [] c) → SameOrLonger (frame_of forms c) (frame_of [] c)
     go (inl p) = inl (rw p)
     go (inr p) = inr (omega arith)
 
-not-shorter : (other short : List ℕ) → SameOrLonger other short → length short ≤ length other
-not-shorter other short (inl p) = le_of_eq (ap length (sym p))
-not-shorter other short (inr p) = omega arith
+not_shorter : (other short : List ℕ) → SameOrLonger other short → length short ≤ length other
+not_shorter other short (inl p) = le_of_eq (ap length (sym p))
+not_shorter other short (inr p) = omega arith
 
 longer : (other short : List ℕ) → SameOrLonger other short → other ≢ short → length short < length other
 longer other short (inl p) h = absurd (h p)
 longer other short (inr p) h = p
 
-short-fits : (s : List ℕ) (c : Command) → Framed s c → length (frameOf [] c) ≤ 255
-short-fits s c f =
-    let least = not-shorter (frameOf f.forms c) (frameOf [] c) (frame-longer f.forms c) in
-    let len : length s ≡ length (frameOf f.forms c) = ap length f.is in
+short_fits : (s : List ℕ) (c : Command) → Framed s c → length (frame_of [] c) ≤ 255
+short_fits s c f =
+    let least = not_shorter (frame_of f.forms c) (frame_of [] c) (frame_longer f.forms c) in
+    let len : length s ≡ length (frame_of f.forms c) = ap length f.is in
     omega (arith, f.short, least, len)
 
-frame-around : (s : List ℕ) (c : Command) → Framed s c
-    → Around c (length s ∷ c.code ∷ beforeElements (layoutOf c.code) c) (afterElements (layoutOf c.code) c) s
-unfolding frameOf
-frame-around s c f =
-    let same : length s ≡ length (frameOf f.forms c) = ap length f.is in
-    (f.forms, rw same (f.is ∙ ap (λ (b : List ℕ). length (frameOf f.forms c) ∷ c.code ∷ b) (body-around (layoutOf c.code) f.forms c f.ok)))
+frame_around : (s : List ℕ) (c : Command) → Framed s c
+    → Around c (length s ∷ c.code ∷ before_elements (layout_of c.code) c) (after_elements (layout_of c.code) c) s
+unfolding frame_of
+frame_around s c f =
+    let same : length s ≡ length (frame_of f.forms c) = ap length f.is in
+    (f.forms, rw same (f.is ∙ ap (λ (b : List ℕ). length (frame_of f.forms c) ∷ c.code ∷ b) (body_around (layout_of c.code) f.forms c f.ok)))
 
 -- ── secure payloads ─────────────────────────────────────────────────────────
 secured : (code : ℕ) (s : List ℕ) (c : Command) → PayloadGives code s c → Accepted Secure code s c
-unfolding readSecure
+unfolding read_secure
 secured code s c (small, long, e) =
-    let g = secure-gives (classOf code) code s c long e in
-    accepted Secure code s c long g.1 g.0 (secure-layout code g.0) small g.2
+    let g = secure_gives (class_of code) code s c long e in
+    accepted Secure code s c long g.1 g.0 (secure_layout code g.0) small g.2
 
-payload-back : (forms : Forms) (c : Command) (rest : List ℕ) → classOf c.code ≡ Secure → bodyOk (layoutOf c.code) c ≡ true → Left (layoutOf c.code).behind rest
-    → PayloadGives c.code (secureOf forms c ++ rest) c
-unfolding readSecure secureOf
-payload-back forms c rest class ok left =
-    let l : Layout = layoutOf c.code in
-    let narrow = secure-layout c.code class in (
-      rw allBelow-++ (and-both (body-small l narrow forms c ok) (left-small l.behind rest left)),
-      longIn forms (elementsOf c),
-      rw (class, body-back l narrow forms c rest ok left),
+payload_back : (forms : Forms) (c : Command) (rest : List ℕ) → class_of c.code ≡ Secure → body_ok (layout_of c.code) c ≡ true → Left (layout_of c.code).behind rest
+    → PayloadGives c.code (secure_of forms c ++ rest) c
+unfolding read_secure secure_of
+payload_back forms c rest class ok left =
+    let l : Layout = layout_of c.code in
+    let narrow = secure_layout c.code class in (
+      rw all_below_append (and_both (body_small l narrow forms c ok) (left_small l.behind rest left)),
+      long_in forms (elements_of c),
+      rw (class, body_back l narrow forms c rest ok left),
     )
 
 -- the all-short payload with nothing behind it
-short-back : (c : Command) → classOf c.code ≡ Secure → bodyOk (layoutOf c.code) c ≡ true → PayloadGives c.code (secureOf [] c) c
-short-back c class ok = rw append-nil at (payload-back [] c [] class ok (left-none (layoutOf c.code).behind))
+short_back : (c : Command) → class_of c.code ≡ Secure → body_ok (layout_of c.code) c ≡ true → PayloadGives c.code (secure_of [] c) c
+short_back c class ok = rw append-nil at (payload_back [] c [] class ok (left_none (layout_of c.code).behind))
 
-tail-longer : (a b tail : List ℕ) → SameOrLonger a b → SameOrLonger (a ++ tail) b
-tail-longer a b [] (inl p) = inl (append-nil a ∙ p)
-tail-longer a b (x ∷ tail) (inl p) = inr (rw p (simp length-append (omega arith)))
-tail-longer a b tail (inr p) = inr (simp length-append (omega arith))
+tail_longer : (a b tail : List ℕ) → SameOrLonger a b → SameOrLonger (a ++ tail) b
+tail_longer a b [] (inl p) = inl (append-nil a ∙ p)
+tail_longer a b (x ∷ tail) (inl p) = inr (rw p (simp length-append (omega arith)))
+tail_longer a b tail (inr p) = inr (simp length-append (omega arith))
 
-payload-longer : (code : ℕ) (s : List ℕ) (c : Command) → Accepted Secure code s c → SameOrLonger s (secureOf [] c)
-unfolding secureOf
-payload-longer code s c a =
-    rw a.is (tail-longer (bodyBytes (layoutOf c.code) a.forms c) (bodyBytes (layoutOf c.code) [] c) a.rest (body-longer (layoutOf c.code) a.forms c))
+payload_longer : (code : ℕ) (s : List ℕ) (c : Command) → Accepted Secure code s c → SameOrLonger s (secure_of [] c)
+unfolding secure_of
+payload_longer code s c a =
+    rw a.is (tail_longer (body_bytes (layout_of c.code) a.forms c) (body_bytes (layout_of c.code) [] c) a.rest (body_longer (layout_of c.code) a.forms c))
 
-payload-around : (code : ℕ) (s : List ℕ) (c : Command) (a : Accepted Secure code s c)
-    → Around c (beforeElements (layoutOf c.code) c) (afterElements (layoutOf c.code) c ++ a.rest) s
-payload-around code s c a =
-    let l : Layout = layoutOf c.code in
-    (a.forms, a.is ∙ rw (body-around l a.forms c a.ok) (simp append_assoc))
+payload_around : (code : ℕ) (s : List ℕ) (c : Command) (a : Accepted Secure code s c)
+    → Around c (before_elements (layout_of c.code) c) (after_elements (layout_of c.code) c ++ a.rest) s
+payload_around code s c a =
+    let l : Layout = layout_of c.code in
+    (a.forms, a.is ∙ rw (body_around l a.forms c a.ok) (simp append_assoc))
 
 -- ── the writer's test ───────────────────────────────────────────────────────
-frame-writable : (c : Command) → HasFrame c → writable c ≡ true
+frame_writable : (c : Command) → HasFrame c → writable c ≡ true
 unfolding writable
-frame-writable c (s, g) =
+frame_writable c (s, g) =
     let f = framed s c g in
-    and-both f.ok (rw f.class (le-leb _ _ (short-fits s c f)))
+    and_both f.ok (rw f.class (le-leb _ _ (short_fits s c f)))
 
-payload-writable : (c : Command) → HasPayload c → writable c ≡ true
+payload_writable : (c : Command) → HasPayload c → writable c ≡ true
 unfolding writable
-payload-writable c (code, s, g) =
+payload_writable c (code, s, g) =
     let a = secured code s c g in
-    and-both a.ok (rw a.class)
+    and_both a.ok (rw a.class)
 
-frame-written : (c : Command) → classOf c.code ≡ Plain → writable c ≡ true → (length (frameOf [] c) ≤ 255) × FrameGives (frameOf [] c) c
+frame_written : (c : Command) → class_of c.code ≡ Plain → writable c ≡ true → (length (frame_of [] c) ≤ 255) × FrameGives (frame_of [] c) c
 unfolding writable
-frame-written c class w =
-    let fits : length (frameOf [] c) ≤ 255 = leb-true _ _ (subst (λ (k : Class). fitsClass k c ≡ true) class (and-right _ _ w)) in
-    (fits, frame-back [] c class (and-left _ _ w) fits)
+frame_written c class w =
+    let fits : length (frame_of [] c) ≤ 255 = leb-true _ _ (subst (λ (k : Class). fits_class k c ≡ true) class (and_right _ _ w)) in
+    (fits, frame_back [] c class (and_left _ _ w) fits)
 
-payload-written : (c : Command) → classOf c.code ≡ Secure → writable c ≡ true → PayloadGives c.code (secureOf [] c) c
+payload_written : (c : Command) → class_of c.code ≡ Secure → writable c ≡ true → PayloadGives c.code (secure_of [] c) c
 unfolding writable
-payload-written c class w = short-back c class (and-left _ _ w)
+payload_written c class w = short_back c class (and_left _ _ w)
 
-unknown-unwritable : (c : Command) → classOf c.code ≡ Unknown → writable c ≡ true → ⊥
+unknown_unwritable : (c : Command) → class_of c.code ≡ Unknown → writable c ≡ true → ⊥
 unfolding writable
-unknown-unwritable c class w = true≢false (sym (subst (λ (k : Class). fitsClass k c ≡ true) class (and-right _ _ w)))
+unknown_unwritable c class w = true≢false (sym (subst (λ (k : Class). fits_class k c ≡ true) class (and_right _ _ w)))
 
-writable-given : (c : Command) → writable c ≡ true → HasFrame c ⊎ HasPayload c
-writable-given c w = go (classOf c.code) refl
+writable_given : (c : Command) → writable c ≡ true → HasFrame c ⊎ HasPayload c
+writable_given c w = go (class_of c.code) refl
   where
-    go : (k : Class) → classOf c.code ≡ k → HasFrame c ⊎ HasPayload c
-    go Plain class = inl (frameOf [] c, (frame-written c class w).1)
-    go Secure class = inr (c.code, secureOf [] c, payload-written c class w)
-    go Unknown class = absurd (unknown-unwritable c class w)
+    go : (k : Class) → class_of c.code ≡ k → HasFrame c ⊎ HasPayload c
+    go Plain class = inl (frame_of [] c, (frame_written c class w).1)
+    go Secure class = inr (c.code, secure_of [] c, payload_written c class w)
+    go Unknown class = absurd (unknown_unwritable c class w)
 
-some-not-none : {s : List ℕ} → some s ≡ none → ⊥
-some-not-none e = let z : ◌≡◌ {A = ℕ} 0 1 = cc in omega arith
+some_not_none : {s : List ℕ} → some s ≡ none → ⊥
+some_not_none e = let z : ◌≡◌ {A = ℕ} 0 1 = cc in omega arith
 
-written-some : (c : Command) (s : List ℕ) → written c ≡ some s → (writable c ≡ true) × (shortest (classOf c.code) c ≡ s)
+written_some : (c : Command) (s : List ℕ) → written c ≡ some s → (writable c ≡ true) × (shortest (class_of c.code) c ≡ s)
 unfolding written
-written-some c s e = go (writable c) refl e
+written_some c s e = go (writable c) refl e
   where
-    go : (b : Bool) → writable c ≡ b → cond b (some (shortest (classOf c.code) c)) none ≡ some s → (writable c ≡ true) × (shortest (classOf c.code) c ≡ s)
+    go : (b : Bool) → writable c ≡ b → cond b (some (shortest (class_of c.code) c)) none ≡ some s → (writable c ≡ true) × (shortest (class_of c.code) c ≡ s)
     go true w e = (w, cc)
-    go false w e = absurd (some-not-none (sym e))
+    go false w e = absurd (some_not_none (sym e))
 
-none-written : (c : Command) → (writable c ≡ true → ⊥) → written c ≡ none
+none_written : (c : Command) → (writable c ≡ true → ⊥) → written c ≡ none
 unfolding written
-none-written c not = go (writable c) refl
+none_written c not = go (writable c) refl
   where
-    go : (b : Bool) → writable c ≡ b → cond b (some (shortest (classOf c.code) c)) none ≡ none
+    go : (b : Bool) → writable c ≡ b → cond b (some (shortest (class_of c.code) c)) none ≡ none
     go true w = absurd (not w)
     go false w = refl
 
 -- ── the statements ──────────────────────────────────────────────────────────
-pub frames-are-choices : FramesAreChoices
-frames-are-choices c (t, g) s = (
+pub frames_are_choices : FramesAreChoices
+frames_are_choices c (t, g) s = (
   λ given. let f = framed s c given in (f.forms, f.is, f.short),
   λ choice.
       let f = framed t c g in
-      rw choice.1 (frame-back choice.0 c f.class f.ok (rw choice.1 at choice.2)),
+      rw choice.1 (frame_back choice.0 c f.class f.ok (rw choice.1 at choice.2)),
 )
 
-pub payloads-are-choices : PayloadsAreChoices
-unfolding secureOf
-payloads-are-choices c (k, t, g) code s = (
+pub payloads_are_choices : PayloadsAreChoices
+unfolding secure_of
+payloads_are_choices c (k, t, g) code s = (
   λ given.
       let a = secured code s c given in
-      let follows = subst (λ (x : ℕ). MayFollow x a.rest) a.same (secure-left c.code a.rest a.class a.left) in
+      let follows = subst (λ (x : ℕ). MayFollow x a.rest) a.same (secure_left c.code a.rest a.class a.left) in
       (sym a.same, a.forms, a.rest, follows, a.is),
   λ choice.
       let a = secured k t c g in
-      let left = secure-follows c.code choice.2 a.class (subst (λ (x : ℕ). MayFollow x choice.2) choice.0 choice.3) in
-      rw (choice.0, choice.4) (payload-back choice.1 c choice.2 a.class a.ok left),
+      let left = secure_follows c.code choice.2 a.class (subst (λ (x : ℕ). MayFollow x choice.2) choice.0 choice.3) in
+      rw (choice.0, choice.4) (payload_back choice.1 c choice.2 a.class a.ok left),
 )
 
-pub short-frame-accepted : ShortFrameAccepted
-short-frame-accepted c has = (frame-written c (framed has.0 c has.1).class (frame-writable c has)).1
+pub short_frame_accepted : ShortFrameAccepted
+short_frame_accepted c has = (frame_written c (framed has.0 c has.1).class (frame_writable c has)).1
 
-pub short-payload-accepted : ShortPayloadAccepted
-short-payload-accepted c has = payload-written c (secured has.0 has.1 c has.2).class (payload-writable c has)
+pub short_payload_accepted : ShortPayloadAccepted
+short_payload_accepted c has = payload_written c (secured has.0 has.1 c has.2).class (payload_writable c has)
 
-pub other-frames-longer : OtherFramesLonger
-other-frames-longer c s given other =
+pub other_frames_longer : OtherFramesLonger
+other_frames_longer c s given other =
     let f = framed s c given in
-    longer s (frameOf [] c) (rw f.is (frame-longer f.forms c)) other
+    longer s (frame_of [] c) (rw f.is (frame_longer f.forms c)) other
 
-pub other-payloads-longer : OtherPayloadsLonger
-other-payloads-longer c code s given other = longer s (secureOf [] c) (payload-longer code s c (secured code s c given)) other
+pub other_payloads_longer : OtherPayloadsLonger
+other_payloads_longer c code s given other = longer s (secure_of [] c) (payload_longer code s c (secured code s c given)) other
 
-pub short-frame-written : ShortFrameWritten
+pub short_frame_written : ShortFrameWritten
 unfolding written
-short-frame-written c has = rw (frame-writable c has, (framed has.0 c has.1).class)
+short_frame_written c has = rw (frame_writable c has, (framed has.0 c has.1).class)
 
-pub short-payload-written : ShortPayloadWritten
+pub short_payload_written : ShortPayloadWritten
 unfolding written
-short-payload-written c has = rw (payload-writable c has, (secured has.0 has.1 c has.2).class)
+short_payload_written c has = rw (payload_writable c has, (secured has.0 has.1 c has.2).class)
 
-pub unwritable-exactly : UnwritableExactly
-unwritable-exactly c = (
-  λ no. (λ has. some-not-none (sym (short-frame-written c has) ∙ no), λ has. some-not-none (sym (short-payload-written c has) ∙ no)),
-  λ neither. none-written c λ w. by neither (writable-given c w),
+pub unwritable_exactly : UnwritableExactly
+unwritable_exactly c = (
+  λ no. (λ has. some_not_none (sym (short_frame_written c has) ∙ no), λ has. some_not_none (sym (short_payload_written c has) ∙ no)),
+  λ neither. none_written c λ w. by neither (writable_given c w),
 )
   where
     by : (¬ HasFrame c) × (¬ HasPayload c) → HasFrame c ⊎ HasPayload c → ⊥
     by neither (inl has) = neither.0 has
     by neither (inr has) = neither.1 has
 
-pub frame-read-back : FrameReadBack
-frame-read-back c s class e =
-    let w = written-some c s e in
-    subst (λ (t : List ℕ). (length t ≤ 255) × FrameGives t c) (ap (λ (k : Class). shortest k c) (sym class) ∙ w.1) (frame-written c class w.0)
+pub frame_read_back : FrameReadBack
+frame_read_back c s class e =
+    let w = written_some c s e in
+    subst (λ (t : List ℕ). (length t ≤ 255) × FrameGives t c) (ap (λ (k : Class). shortest k c) (sym class) ∙ w.1) (frame_written c class w.0)
 
-pub payload-read-back : PayloadReadBack
-payload-read-back c s class e =
-    let w = written-some c s e in
-    subst (λ (t : List ℕ). PayloadGives c.code t c) (ap (λ (k : Class). shortest k c) (sym class) ∙ w.1) (payload-written c class w.0)
+pub payload_read_back : PayloadReadBack
+payload_read_back c s class e =
+    let w = written_some c s e in
+    subst (λ (t : List ℕ). PayloadGives c.code t c) (ap (λ (k : Class). shortest k c) (sym class) ∙ w.1) (payload_written c class w.0)
 
-pub two-frames : TwoFrames
-two-frames c s t gs gt = (
-  c.code ∷ beforeElements (layoutOf c.code) c,
-  afterElements (layoutOf c.code) c,
-  frame-around s c (framed s c gs),
-  frame-around t c (framed t c gt),
+pub two_frames : TwoFrames
+two_frames c s t gs gt = (
+  c.code ∷ before_elements (layout_of c.code) c,
+  after_elements (layout_of c.code) c,
+  frame_around s c (framed s c gs),
+  frame_around t c (framed t c gt),
 )
 
-pub two-payloads : TwoPayloads
-two-payloads c s t gs gt =
+pub two_payloads : TwoPayloads
+two_payloads c s t gs gt =
     let a = secured c.code s c gs in
     let b = secured c.code t c gt in (
-      beforeElements (layoutOf c.code) c,
-      afterElements (layoutOf c.code) c,
+      before_elements (layout_of c.code) c,
+      after_elements (layout_of c.code) c,
       a.rest,
       b.rest,
-      secure-left c.code a.rest a.class a.left,
-      secure-left c.code b.rest b.class b.left,
-      payload-around c.code s c a,
-      payload-around c.code t c b,
+      secure_left c.code a.rest a.class a.left,
+      secure_left c.code b.rest b.class b.left,
+      payload_around c.code s c a,
+      payload_around c.code t c b,
     )
 
-pub frame-long-counted : FrameLongCounted
-unfolding frame-back
-frame-long-counted c (t, g) forms short =
+pub frame_long_counted : FrameLongCounted
+unfolding frame_back
+frame_long_counted c (t, g) forms short =
     let f = framed t c g in
-    (frame-back forms c f.class f.ok short).2
+    (frame_back forms c f.class f.ok short).2
 
-pub payload-long-counted : PayloadLongCounted
-unfolding payload-back
-payload-long-counted c (k, t, g) forms tail follows =
+pub payload_long_counted : PayloadLongCounted
+unfolding payload_back
+payload_long_counted c (k, t, g) forms tail follows =
     let a = secured k t c g in
-    (payload-back forms c tail a.class a.ok (secure-follows c.code tail a.class follows)).2
+    (payload_back forms c tail a.class a.ok (secure_follows c.code tail a.class follows)).2
 
-pub plain-long-counted : PlainLongCounted
-unfolding readPayload
-plain-long-counted c ([], small, long, e) forms = absurd (not-given e)
-plain-long-counted c (code ∷ body, small, long, e) forms =
-    let (class, rest, read) = plain-gives (classOf code) code body c long e in
-    let a = accepted Plain code body c long rest class (plain-layout code class) (and-right _ _ small) read in
-    let l : Layout = layoutOf c.code in
-    let back = rw append-nil at (body-back l (plain-layout c.code a.class) forms c [] a.ok (left-none l.behind)) in
+pub plain_long_counted : PlainLongCounted
+unfolding read_payload
+plain_long_counted c ([], small, long, e) forms = absurd (not_given e)
+plain_long_counted c (code ∷ body, small, long, e) forms =
+    let (class, rest, read) = plain_gives (class_of code) code body c long e in
+    let a = accepted Plain code body c long rest class (plain_layout code class) (and_right _ _ small) read in
+    let l : Layout = layout_of c.code in
+    let back = rw append-nil at (body_back l (plain_layout c.code a.class) forms c [] a.ok (left_none l.behind)) in
     rw (a.class, back)
 
-pub one-form-from-256 : OneFormFrom256
-one-form-from-256 long e h = by-form (λ (w : List ℕ). w ≡ longBytes e) long e (λ below. absurd (omega arith)) (λ why. refl)
+pub one_form_from_256 : OneFormFrom256
+one_form_from_256 long e h = by_form (λ (w : List ℕ). w ≡ long_bytes e) long e (λ below. absurd (omega arith)) (λ why. refl)

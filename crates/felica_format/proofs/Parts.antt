@@ -9,96 +9,96 @@ use lib.ListN.{length, drop, length-append}
 use lib.Seq.{drop_at}
 use lib.Dec.{ltb, leb, eqb}
 use borrow.Author.Tests.{ltb-true, ltb-false, eqb-true}
-use Rattle.felica_format.specs.Basic.{◌and◌, allBelow, Bytes, zeros, refuseIf}
-use Rattle.felica_format.specs.Layout.{Selector, noSelector, typeByte, anyByte, Codes, noCodes, ◌to◌, boundsOf}
-use Rattle.felica_format.specs.Read.{readIdm, readSelector, wordsOf, readWords, readCodes, readData}
-use Rattle.felica_format.specs.Write.{idmBytes, selectorBytes, wordsBytes, codesBytes, dataBytes}
-use Rattle.felica_format.specs.Writable.{sameList, isEmpty, idmOk, selectorOk, codesOk, dataOk}
-use Rattle.felica_format.proofs.Tests.{tests, and-left, and-right, and-both, sameList-true, sameList-refl, isEmpty-true}
-use Rattle.felica_format.proofs.Bytes.{head-below}
-use Rattle.felica_format.proofs.Steps.{taken-value, taken-rest, refuseIf-passed, refuseIf-taken, refuseIf-pass}
-use Rattle.felica_format.proofs.Laws.{Laws, absent-laws, bytes-laws, byte-laws, counted-laws}
+use Rattle.felica_format.specs.Basic.{◌and◌, all_below, Bytes, zeros, refuse_if}
+use Rattle.felica_format.specs.Layout.{Selector, no_selector, type_byte, any_byte, Codes, no_codes, ◌to◌, bounds_of}
+use Rattle.felica_format.specs.Read.{read_idm, read_selector, words_of, read_words, read_codes, read_data}
+use Rattle.felica_format.specs.Write.{idm_bytes, selector_bytes, words_bytes, codes_bytes, data_bytes}
+use Rattle.felica_format.specs.Writable.{same_list, is_empty, idm_ok, selector_ok, codes_ok, data_ok}
+use Rattle.felica_format.proofs.Tests.{tests, and_left, and_right, and_both, same_list_true, same_list_refl, is_empty_true}
+use Rattle.felica_format.proofs.Bytes.{head_below}
+use Rattle.felica_format.proofs.Steps.{taken_value, taken_rest, refuse_if_passed, refuse_if_taken, refuse_if_pass}
+use Rattle.felica_format.proofs.Laws.{Laws, absent_laws, bytes_laws, byte_laws, counted_laws}
 
-pub idm-laws : (there : Bool) → Laws (readIdm there) (idmBytes there) (idmOk there)
-unfolding readIdm idmBytes idmOk
-idm-laws true = bytes-laws 8 6
-idm-laws false = absent-laws (zeros 8) (λ a. sameList a (zeros 8)) (sameList-refl (zeros 8)) (λ a h. sameList-true a (zeros 8) h)
+pub idm_laws : (there : Bool) → Laws (read_idm there) (idm_bytes there) (idm_ok there)
+unfolding read_idm idm_bytes idm_ok
+idm_laws true = bytes_laws 8 6
+idm_laws false = absent_laws (zeros 8) (λ a. same_list a (zeros 8)) (same_list_refl (zeros 8)) (λ a h. same_list_true a (zeros 8) h)
 
-pub data-laws : (there : Bool) (m : ℕ) → Laws (readData there m) (dataBytes there) (dataOk there m)
-unfolding readData dataBytes dataOk
-data-laws true m = bytes-laws (16 * m) 17
-data-laws false m = absent-laws [] isEmpty refl (λ a h. isEmpty-true a h)
+pub data_laws : (there : Bool) (m : ℕ) → Laws (read_data there m) (data_bytes there) (data_ok there m)
+unfolding read_data data_bytes data_ok
+data_laws true m = bytes_laws (16 * m) 17
+data_laws false m = absent_laws [] is_empty refl (λ a h. is_empty_true a h)
 
-pub selector-laws : (selector : Selector) → Laws (readSelector selector) (selectorBytes selector) (selectorOk selector)
-unfolding readSelector selectorBytes selectorOk refuseIf
-selector-laws noSelector = absent-laws 0 (λ b. eqb b 0) refl (λ b h. eqb-true b 0 h)
-selector-laws typeByte = byte-laws (readSelector typeByte) 7 19 (λ b. ltb 1 b) (λ b. leb b 1) refl (λ b s. refl)
+pub selector_laws : (selector : Selector) → Laws (read_selector selector) (selector_bytes selector) (selector_ok selector)
+unfolding read_selector selector_bytes selector_ok refuse_if
+selector_laws no_selector = absent_laws 0 (λ b. eqb b 0) refl (λ b h. eqb-true b 0 h)
+selector_laws type_byte = byte_laws (read_selector type_byte) 7 19 (λ b. ltb 1 b) (λ b. leb b 1) refl (λ b s. refl)
     (λ b h. (omega tests, omega tests)) (λ b small h. omega tests)
-selector-laws anyByte = byte-laws (readSelector anyByte) 7 0 (λ b. false) (λ b. ltb b 256) refl (λ b s. refl)
+selector_laws any_byte = byte_laws (read_selector any_byte) 7 0 (λ b. false) (λ b. ltb b 256) refl (λ b s. refl)
     (λ b h. (refl, omega tests)) (λ b small h. omega tests)
 
 -- n two-byte numbers
-abbrev wordsOk : ℕ → List ℕ → Bool
-wordsOk n ns = eqb (length ns) n and allBelow 65536 ns
+abbrev words_ok : ℕ → List ℕ → Bool
+words_ok n ns = eqb (length ns) n and all_below 65536 ns
 
-wordsBytes-length : (ns : List ℕ) → length (wordsBytes ns) ≡ 2 * length ns
-unfolding wordsBytes
-wordsBytes-length [] = refl
-wordsBytes-length (n ∷ ns) = let ih = wordsBytes-length ns in omega arith
+words_bytes_length : (ns : List ℕ) → length (words_bytes ns) ≡ 2 * length ns
+unfolding words_bytes
+words_bytes_length [] = refl
+words_bytes_length (n ∷ ns) = let ih = words_bytes_length ns in omega arith
 
-wordsBytes-small : (ns : List ℕ) → allBelow 65536 ns ≡ true → Bytes (wordsBytes ns)
-unfolding wordsBytes
-wordsBytes-small [] e = refl
-wordsBytes-small (n ∷ ns) e =
-    let h : n < 65536 = head-below 65536 n ns e in
-    and-both (omega tests) (and-both (omega tests) (wordsBytes-small ns (and-right _ _ e)))
+words_bytes_small : (ns : List ℕ) → all_below 65536 ns ≡ true → Bytes (words_bytes ns)
+unfolding words_bytes
+words_bytes_small [] e = refl
+words_bytes_small (n ∷ ns) e =
+    let h : n < 65536 = head_below 65536 n ns e in
+    and_both (omega tests) (and_both (omega tests) (words_bytes_small ns (and_right _ _ e)))
 
-wordsOf-back : (ns rest : List ℕ) → allBelow 65536 ns ≡ true → wordsOf (length ns) (wordsBytes ns ++ rest) ≡ ns
-unfolding wordsOf wordsBytes
-wordsOf-back [] rest e = refl
-wordsOf-back (n ∷ ns) rest e =
+words_of_back : (ns rest : List ℕ) → all_below 65536 ns ≡ true → words_of (length ns) (words_bytes ns ++ rest) ≡ ns
+unfolding words_of words_bytes
+words_of_back [] rest e = refl
+words_of_back (n ∷ ns) rest e =
     let h : n % 256 + 256 * (n / 256) ≡ n = omega arith in
-    let ih = wordsOf-back ns rest (and-right _ _ e) in
+    let ih = words_of_back ns rest (and_right _ _ e) in
     cc
 
-wordsOf-only : (n : ℕ) (s : List ℕ) → 2 * n ≤ length s → Bytes s
-    → (wordsOk n (wordsOf n s) ≡ true) × (s ≡ wordsBytes (wordsOf n s) ++ drop (2 * n) s)
-unfolding wordsOf wordsBytes
-wordsOf-only zero s enough small = (and-both refl refl, refl)
-wordsOf-only (suc n) [] enough small = absurd (omega arith)
-wordsOf-only (suc n) (a ∷ []) enough small = absurd (omega arith)
-wordsOf-only (suc n) (a ∷ b ∷ s) enough small =
-    let ih = wordsOf-only n s (omega arith) (and-right _ _ (and-right _ _ small)) in
-    let ha : a < 256 = ltb-true _ _ (and-left _ _ small) in
-    let hb : b < 256 = ltb-true _ _ (and-left _ _ (and-right _ _ small)) in
+words_of_only : (n : ℕ) (s : List ℕ) → 2 * n ≤ length s → Bytes s
+    → (words_ok n (words_of n s) ≡ true) × (s ≡ words_bytes (words_of n s) ++ drop (2 * n) s)
+unfolding words_of words_bytes
+words_of_only zero s enough small = (and_both refl refl, refl)
+words_of_only (suc n) [] enough small = absurd (omega arith)
+words_of_only (suc n) (a ∷ []) enough small = absurd (omega arith)
+words_of_only (suc n) (a ∷ b ∷ s) enough small =
+    let ih = words_of_only n s (omega arith) (and_right _ _ (and_right _ _ small)) in
+    let ha : a < 256 = ltb-true _ _ (and_left _ _ small) in
+    let hb : b < 256 = ltb-true _ _ (and_left _ _ (and_right _ _ small)) in
     let two : 2 * suc n ≡ suc (suc (2 * n)) = omega arith in
     let low : (a + 256 * b) % 256 ≡ a = omega arith in
     let high : (a + 256 * b) / 256 ≡ b = omega arith in
-    let len : length (wordsOf n s) ≡ n = eqb-true _ _ (and-left _ _ ih.0) in (
-      and-both (omega tests) (and-both (omega tests) (and-right _ _ ih.0)),
+    let len : length (words_of n s) ≡ n = eqb-true _ _ (and_left _ _ ih.0) in (
+      and_both (omega tests) (and_both (omega tests) (and_right _ _ ih.0)),
       rw (two, low, high) (ap (λ (r : List ℕ). a ∷ b ∷ r) ih.1),
     )
 
-words-laws : (n : ℕ) → Laws (readWords n) wordsBytes (wordsOk n)
-unfolding readWords
-words-laws n = record {
+words_laws : (n : ℕ) → Laws (read_words n) words_bytes (words_ok n)
+unfolding read_words
+words_laws n = record {
   back = λ ns rest ok.
-      let h : length ns ≡ n = eqb-true _ _ (and-left _ _ ok) in
-      let w = wordsBytes-length ns in
-      let l : length (wordsBytes ns ++ rest) ≡ length (wordsBytes ns) + length rest = length-append (wordsBytes ns) rest in
-      let enough : ltb (length (wordsBytes ns ++ rest)) (2 * n) ≡ false = omega tests in
-      rw (refuseIf-pass, drop_at (wordsBytes ns) rest (2 * n) (omega arith), ← h, wordsOf-back ns rest (and-right _ _ ok));
+      let h : length ns ≡ n = eqb-true _ _ (and_left _ _ ok) in
+      let w = words_bytes_length ns in
+      let l : length (words_bytes ns ++ rest) ≡ length (words_bytes ns) + length rest = length-append (words_bytes ns) rest in
+      let enough : ltb (length (words_bytes ns ++ rest)) (2 * n) ≡ false = omega tests in
+      rw (refuse_if_pass, drop_at (words_bytes ns) rest (2 * n) (omega arith), ← h, words_of_back ns rest (and_right _ _ ok));
   only = λ s ns rest small e.
-      let enough : 2 * n ≤ length s = ltb-false _ _ (refuseIf-passed _ _ _ e) in
-      let t = refuseIf-taken _ _ _ e in
-      let o = wordsOf-only n s enough small in
-      (rw (← taken-value t) o.0, rw (← taken-value t, ← taken-rest t) o.1);
-  small = λ ns ok. wordsBytes-small ns (and-right _ _ ok);
+      let enough : 2 * n ≤ length s = ltb-false _ _ (refuse_if_passed _ _ _ e) in
+      let t = refuse_if_taken _ _ _ e in
+      let o = words_of_only n s enough small in
+      (rw (← taken_value t) o.0, rw (← taken_value t, ← taken_rest t) o.1);
+  small = λ ns ok. words_bytes_small ns (and_right _ _ ok);
 }
 
-pub codes-laws : (missing outside : ℕ) (codes : Codes) → (boundsOf codes).greatest < 256
-    → Laws (readCodes missing outside codes) (codesBytes codes) (codesOk codes)
-unfolding readCodes codesBytes codesOk
-codes-laws missing outside noCodes narrow = absent-laws [] isEmpty refl (λ ns h. isEmpty-true ns h)
-codes-laws missing outside (least to greatest) narrow =
-    counted-laws missing outside least greatest narrow readWords wordsBytes (λ ns. allBelow 65536 ns) words-laws
+pub codes_laws : (missing outside : ℕ) (codes : Codes) → (bounds_of codes).greatest < 256
+    → Laws (read_codes missing outside codes) (codes_bytes codes) (codes_ok codes)
+unfolding read_codes codes_bytes codes_ok
+codes_laws missing outside no_codes narrow = absent_laws [] is_empty refl (λ ns h. is_empty_true ns h)
+codes_laws missing outside (least to greatest) narrow =
+    counted_laws missing outside least greatest narrow read_words words_bytes (λ ns. all_below 65536 ns) words_laws

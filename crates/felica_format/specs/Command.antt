@@ -17,20 +17,20 @@ pub record EndFields : Type 0 where
   pub choice : ℕ
   pub challenge : List ℕ
 
-abbrev pub endFields : ℕ → ℕ → ℕ → ℕ → List ℕ → EndFields
-endFields n i o c b = record { number = n; index = i; option = o; choice = c; challenge = b }
+abbrev pub end_fields : ℕ → ℕ → ℕ → ℕ → List ℕ → EndFields
+end_fields n i o c b = record { number = n; index = i; option = o; choice = c; challenge = b }
 
 -- where a layout has none of them
-abbrev pub noFields : EndFields
-noFields = endFields 0 0 0 0 (zeros 16)
+abbrev pub no_fields : EndFields
+no_fields = end_fields 0 0 0 0 (zeros 16)
 
 --   idm            8 bytes
 --   selector       28 property type; 40 operation parameter
 --   first          the code list; of 10 the areas
 --   second         10 services
 --   numbers, places, modes   the block list: of each element its block number, its place in the service list, its access mode
---   blockData      08, 16, 46: 16 bytes for each element
---   issuePackage   80, 82, 84: the package (`package` alone is a word of the language)
+--   block_data      08, 16, 46: 16 bytes for each element
+--   issue_package   80, 82, 84: the package (`package` alone is a word of the language)
 pub record Command : Type 0 where
   pub code : ℕ
   pub idm : List ℕ
@@ -40,13 +40,13 @@ pub record Command : Type 0 where
   pub numbers : List ℕ
   pub places : List ℕ
   pub modes : List ℕ
-  pub blockData : List ℕ
+  pub block_data : List ℕ
   pub number : ℕ
   pub index : ℕ
   pub option : ℕ
   pub choice : ℕ
   pub challenge : List ℕ
-  pub issuePackage : List ℕ
+  pub issue_package : List ℕ
 
 -- one element of a block list
 pub record Element : Type 0 where
@@ -60,25 +60,25 @@ pub record Formed : Type 0 where
   pub long : Bool
 
 -- "how many were long"
-abbrev pub longCount : List Formed → ℕ
-longCount [] = 0
-longCount (f ∷ fs) = cond f.long 1 0 + longCount fs
+abbrev pub long_count : List Formed → ℕ
+long_count [] = 0
+long_count (f ∷ fs) = cond f.long 1 0 + long_count fs
 
 -- the elements that the three lists name; a place or mode that is missing counts as 0
-unfoldable pub zipElements : List ℕ → List ℕ → List ℕ → List Element
-zipElements [] places modes = []
-zipElements (n ∷ numbers) places modes =
-    record { number = n; place = get_or places 0 0; mode = get_or modes 0 0 } ∷ zipElements numbers (drop 1 places) (drop 1 modes)
+unfoldable pub zip_elements : List ℕ → List ℕ → List ℕ → List Element
+zip_elements [] places modes = []
+zip_elements (n ∷ numbers) places modes =
+    record { number = n; place = get_or places 0 0; mode = get_or modes 0 0 } ∷ zip_elements numbers (drop 1 places) (drop 1 modes)
 
-abbrev pub elementsOf : Command → List Element
-elementsOf c = zipElements c.numbers c.places c.modes
+abbrev pub elements_of : Command → List Element
+elements_of c = zip_elements c.numbers c.places c.modes
 
-abbrev pub endFieldsOf : Command → EndFields
-endFieldsOf c = endFields c.number c.index c.option c.choice c.challenge
+abbrev pub end_fields_of : Command → EndFields
+end_fields_of c = end_fields c.number c.index c.option c.choice c.challenge
 
 -- the command of the parts read
-abbrev pub commandOf : ℕ → List ℕ → ℕ → List ℕ → List ℕ → List Element → List ℕ → EndFields → List ℕ → Command
-commandOf code idm selector first second elements blockData ending issuePackage =
+abbrev pub command_of : ℕ → List ℕ → ℕ → List ℕ → List ℕ → List Element → List ℕ → EndFields → List ℕ → Command
+command_of code idm selector first second elements block_data ending issue_package =
     record {
       code = code;
       idm = idm;
@@ -88,11 +88,11 @@ commandOf code idm selector first second elements blockData ending issuePackage 
       numbers = map (λ e. e.number) elements;
       places = map (λ e. e.place) elements;
       modes = map (λ e. e.mode) elements;
-      blockData = blockData;
+      block_data = block_data;
       number = ending.number;
       index = ending.index;
       option = ending.option;
       choice = ending.choice;
       challenge = ending.challenge;
-      issuePackage = issuePackage;
+      issue_package = issue_package;
     }

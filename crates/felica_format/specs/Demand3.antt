@@ -4,20 +4,20 @@
 use Rattle.std.specs.Prelude.{ℕ, ◌≤◌, ◌<◌, ◌≡◌, ◌⊎◌, ◌≢◌, ◌↔◌, Bool, true, List, [], ◌∷◌, ◌++◌, length}
 use Rattle.std.proofs.Math.Option.{none, some}
 use Rattle.felica_format.specs.declared.classes.Class.TheVariants.{Plain, Secure}
-use Rattle.felica_format.specs.Basic.{Bytes, isOneOf}
-use Rattle.felica_format.specs.Command.{Command, Element, elementsOf}
-use Rattle.felica_format.specs.Layout.{classOf}
-use Rattle.felica_format.specs.Read.{gives, readFrame, readSecure}
-use Rattle.felica_format.specs.Write.{Forms, longBytes, elementBytes, eachBytes, frameOf, secureOf}
+use Rattle.felica_format.specs.Basic.{Bytes, is_one_of}
+use Rattle.felica_format.specs.Command.{Command, Element, elements_of}
+use Rattle.felica_format.specs.Layout.{class_of}
+use Rattle.felica_format.specs.Read.{gives, read_frame, read_secure}
+use Rattle.felica_format.specs.Write.{Forms, long_bytes, element_bytes, each_bytes, frame_of, secure_of}
 use Rattle.felica_format.specs.Writable.{written}
 
 -- "A frame, or a payload with its secure code, is accepted when the layouts and checks above find no ground against it, and gives the command
 -- read by its layout." How many of its elements were long is no part of the command.
 abbrev pub FrameGives : List ℕ → Command → Type 0
-FrameGives s c = Bytes s × (long : ℕ) × (readFrame s ≡ gives c long)
+FrameGives s c = Bytes s × (long : ℕ) × (read_frame s ≡ gives c long)
 
 abbrev pub PayloadGives : ℕ → List ℕ → Command → Type 0
-PayloadGives code s c = Bytes s × (long : ℕ) × (readSecure code s ≡ gives c long)
+PayloadGives code s c = Bytes s × (long : ℕ) × (read_secure code s ≡ gives c long)
 
 abbrev pub HasFrame : Command → Type 0
 HasFrame c = (s : List ℕ) × FrameGives s c
@@ -27,17 +27,17 @@ HasPayload c = (code : ℕ) × (s : List ℕ) × PayloadGives code s c
 
 -- "its choices of short or long form for block numbers below 256, within 255 bytes"
 abbrev pub FrameChoice : Command → List ℕ → Type 0
-FrameChoice c s = (forms : Forms) × (s ≡ frameOf forms c) × (length s ≤ 255)
+FrameChoice c s = (forms : Forms) × (s ≡ frame_of forms c) × (length s ≤ 255)
 
 -- "behind 14, 16, 44, 46 any tail may follow"
-abbrev pub secureReadsAndWrites : List ℕ
-secureReadsAndWrites = 0x14 ∷ 0x16 ∷ 0x44 ∷ 0x46 ∷ []
+abbrev pub secure_reads_and_writes : List ℕ
+secure_reads_and_writes = 0x14 ∷ 0x16 ∷ 0x44 ∷ 0x46 ∷ []
 
 abbrev pub MayFollow : ℕ → List ℕ → Type 0
-MayFollow code tail = (tail ≡ []) ⊎ ((isOneOf secureReadsAndWrites code ≡ true) × Bytes tail)
+MayFollow code tail = (tail ≡ []) ⊎ ((is_one_of secure_reads_and_writes code ≡ true) × Bytes tail)
 
 abbrev pub PayloadChoice : Command → ℕ → List ℕ → Type 0
-PayloadChoice c code s = (code ≡ c.code) × (forms : Forms) × (tail : List ℕ) × MayFollow code tail × (s ≡ secureOf forms c ++ tail)
+PayloadChoice c code s = (code ≡ c.code) × (forms : Forms) × (tail : List ℕ) × MayFollow code tail × (s ≡ secure_of forms c ++ tail)
 
 -- "The accepted frames of a command are exactly its choices .. The same for secure payloads, with any ignored tail behind reads and writes."
 abbrev pub FramesAreChoices : Type 0
@@ -48,24 +48,24 @@ PayloadsAreChoices = (c : Command) → HasPayload c → (code : ℕ) (s : List �
 
 -- "the all-short one is among them"
 abbrev pub ShortFrameAccepted : Type 0
-ShortFrameAccepted = (c : Command) → HasFrame c → FrameGives (frameOf [] c) c
+ShortFrameAccepted = (c : Command) → HasFrame c → FrameGives (frame_of [] c) c
 
 abbrev pub ShortPayloadAccepted : Type 0
-ShortPayloadAccepted = (c : Command) → HasPayload c → PayloadGives c.code (secureOf [] c) c
+ShortPayloadAccepted = (c : Command) → HasPayload c → PayloadGives c.code (secure_of [] c) c
 
 -- "every other has more bytes"
 abbrev pub OtherFramesLonger : Type 0
-OtherFramesLonger = (c : Command) (s : List ℕ) → FrameGives s c → s ≢ frameOf [] c → length (frameOf [] c) < length s
+OtherFramesLonger = (c : Command) (s : List ℕ) → FrameGives s c → s ≢ frame_of [] c → length (frame_of [] c) < length s
 
 abbrev pub OtherPayloadsLonger : Type 0
-OtherPayloadsLonger = (c : Command) (code : ℕ) (s : List ℕ) → PayloadGives code s c → s ≢ secureOf [] c → length (secureOf [] c) < length s
+OtherPayloadsLonger = (c : Command) (code : ℕ) (s : List ℕ) → PayloadGives code s c → s ≢ secure_of [] c → length (secure_of [] c) < length s
 
 -- "and the writer writes it byte for byte"
 abbrev pub ShortFrameWritten : Type 0
-ShortFrameWritten = (c : Command) → HasFrame c → written c ≡ some (frameOf [] c)
+ShortFrameWritten = (c : Command) → HasFrame c → written c ≡ some (frame_of [] c)
 
 abbrev pub ShortPayloadWritten : Type 0
-ShortPayloadWritten = (c : Command) → HasPayload c → written c ≡ some (secureOf [] c)
+ShortPayloadWritten = (c : Command) → HasPayload c → written c ≡ some (secure_of [] c)
 
 -- "The writer says unwritable exactly when no accepted frame and no accepted secure payload gives the command." The payload may be of any code, and
 -- the three lists of the elements of any lengths.
@@ -74,14 +74,14 @@ UnwritableExactly = (c : Command) → (written c ≡ none) ↔ ((¬ HasFrame c) 
 
 -- "What the writer writes, the parser reads as the command given."
 abbrev pub FrameReadBack : Type 0
-FrameReadBack = (c : Command) (s : List ℕ) → classOf c.code ≡ Plain → written c ≡ some s → (length s ≤ 255) × FrameGives s c
+FrameReadBack = (c : Command) (s : List ℕ) → class_of c.code ≡ Plain → written c ≡ some s → (length s ≤ 255) × FrameGives s c
 
 abbrev pub PayloadReadBack : Type 0
-PayloadReadBack = (c : Command) (s : List ℕ) → classOf c.code ≡ Secure → written c ≡ some s → PayloadGives c.code s c
+PayloadReadBack = (c : Command) (s : List ℕ) → class_of c.code ≡ Secure → written c ≡ some s → PayloadGives c.code s c
 
 -- the list is `before`, the command's elements in some forms, and `after`
 abbrev pub Around : Command → List ℕ → List ℕ → List ℕ → Type 0
-Around c before after s = (forms : Forms) × (s ≡ before ++ (eachBytes forms (elementsOf c) ++ after))
+Around c before after s = (forms : Forms) × (s ≡ before ++ (each_bytes forms (elements_of c) ++ after))
 
 -- Two accepted frames of one command are equal but for the length byte and the forms of the elements.
 abbrev pub TwoFrames : Type 0
@@ -98,4 +98,4 @@ TwoPayloads =
 
 -- An element numbered from 256 up has one form.
 abbrev pub OneFormFrom256 : Type 0
-OneFormFrom256 = (long : Bool) (e : Element) → 256 ≤ e.number → elementBytes long e ≡ longBytes e
+OneFormFrom256 = (long : Bool) (e : Element) → 256 ≤ e.number → element_bytes long e ≡ long_bytes e

@@ -2,7 +2,7 @@
 -- Assumes nothing.
 use Rattle.std.specs.Prelude.{ℕ, ◌≤◌, ◌≡◌, ◌⊎◌, List, get_or}
 use Rattle.std.proofs.Math.Option.{Option, none, some}
-use Rattle.felica_format.specs.Read.{refused, readPayload, readFrame, readSecure}
+use Rattle.felica_format.specs.Read.{refused, read_payload, read_frame, read_secure}
 
 -- a number from least to greatest, alone or with the code
 abbrev pub Number : ℕ → ℕ → ℕ → Option ℕ → Option ℕ → Type 0
@@ -10,11 +10,11 @@ Number least greatest n given code = (least ≤ n) × (n ≤ greatest) × (code 
 
 -- the code is the byte behind the length byte
 abbrev pub FrameRefusals : Type 0
-FrameRefusals = (s : List ℕ) (n : ℕ) (code : Option ℕ) → readFrame s ≡ refused n code → Number 1 3 n none code ⊎ Number 4 20 n (some (get_or s 1 0)) code
+FrameRefusals = (s : List ℕ) (n : ℕ) (code : Option ℕ) → read_frame s ≡ refused n code → Number 1 3 n none code ⊎ Number 4 20 n (some (get_or s 1 0)) code
 
 abbrev pub PayloadRefusals : Type 0
-PayloadRefusals = (s : List ℕ) (n : ℕ) (code : Option ℕ) → readPayload s ≡ refused n code → Number 3 3 n none code ⊎ Number 4 20 n (some (get_or s 0 0)) code
+PayloadRefusals = (s : List ℕ) (n : ℕ) (code : Option ℕ) → read_payload s ≡ refused n code → Number 3 3 n none code ⊎ Number 4 20 n (some (get_or s 0 0)) code
 
 -- an empty secure payload is not 3, so the code is always there
 abbrev pub SecureRefusals : Type 0
-SecureRefusals = (k : ℕ) (s : List ℕ) (n : ℕ) (code : Option ℕ) → readSecure k s ≡ refused n code → Number 5 20 n (some k) code
+SecureRefusals = (k : ℕ) (s : List ℕ) (n : ℕ) (code : Option ℕ) → read_secure k s ≡ refused n code → Number 5 20 n (some k) code

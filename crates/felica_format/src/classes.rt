@@ -1,6 +1,6 @@
 // The class of each command code.
 ghost use Rattle.std.specs.Prelude.{◌≡◌};
-ghost use Rattle.felica_format.specs.Layout.{classOf};
+ghost use Rattle.felica_format.specs.Layout.{class_of};
 
 // Plain commands are sent as frames; the payload of a secure one is encrypted.
 #[derive(Clone, Copy)]
@@ -276,7 +276,7 @@ const CLASSES: [u8; 256] = [
 ];
 
 pub fn class_of(code: u8) -> Class
-    ensures { result ≡ classOf code }
+    ensures { result ≡ class_of code }
 {
     let class = CLASSES[code as usize];
     match class {

@@ -1,9 +1,9 @@
 // The constants of constants.rs that the commands use, under its names, and the functions that read its tables or stand in place of one.
 // Limits of counts are bytes, as the counts are.
 ghost use Rattle.std.specs.Prelude.{◌≡◌, leb};
-ghost use Rattle.felica_format.specs.Basic.{isOneOf};
-ghost use Rattle.felica_format.specs.Layout.{boundsAt};
-ghost use Rattle.felica_format.specs.Read.{isTimeSlots};
+ghost use Rattle.felica_format.specs.Basic.{is_one_of};
+ghost use Rattle.felica_format.specs.Layout.{bounds_at};
+ghost use Rattle.felica_format.specs.Read.{is_time_slots};
 
 pub const IDM_LEN: usize = 8;
 
@@ -163,7 +163,7 @@ pub const MAX_BLOCK_COUNT: u8 = 0xFF;
 
 // A row of the table, and no codes from 25 up. A caller names its row by a literal, so that the compiler puts its values in place of the table.
 pub fn bounds_at(row: usize) -> Bounds
-    ensures { result ≡ boundsAt row }
+    ensures { result ≡ bounds_at row }
 {
     if row < 25 { BOUNDS[row] } else { NO_CODES }
 }
@@ -178,13 +178,13 @@ pub fn is_polling_request_code(value: u8) -> bool
 
 // In place of the Rust's POLLING_TIME_SLOTS: a value below 16 that shares no set bit with its successor.
 pub fn is_polling_time_slot(value: u8) -> bool
-    ensures { result ≡ isTimeSlots value }
+    ensures { result ≡ is_time_slots value }
 {
     value < 16 && value & (value + 1) == 0
 }
 
 fn contains(table: &[u8], value: u8) -> bool
-    ensures { result ≡ isOneOf table.now value }
+    ensures { result ≡ is_one_of table.now value }
 {
     let mut i = 0;
     while i < table.len() {

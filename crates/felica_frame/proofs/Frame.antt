@@ -7,19 +7,19 @@ use mathlib.Core.List.{List, [], ◌∷◌}
 use mathlib.Core.Option.{none}
 use lib.ListN.{length, get_or, drop}
 use borrow.Author.Tests.{eq-eqb, ne_eqb}
-use Rattle.felica_format.specs.Read.{refused, readPayload, readFrame}
+use Rattle.felica_format.specs.Read.{refused, read_payload, read_frame}
 
-pub frame-empty : (s : List ℕ) → length s ≡ 0 → readFrame s ≡ refused 1 none
-unfolding readFrame
-frame-empty [] h = refl
-frame-empty (x ∷ xs) h = absurd (omega arith)
+pub frame_empty : (s : List ℕ) → length s ≡ 0 → read_frame s ≡ refused 1 none
+unfolding read_frame
+frame_empty [] h = refl
+frame_empty (x ∷ xs) h = absurd (omega arith)
 
-pub frame-length : (s : List ℕ) → (length s ≡ 0 → ⊥) → (get_or s 0 0 ≡ length s → ⊥) → readFrame s ≡ refused 2 none
-unfolding readFrame
-frame-length [] h n = absurd (h refl)
-frame-length (x ∷ xs) h n = rw (ne_eqb x (suc (length xs)) n)
+pub frame_length : (s : List ℕ) → (length s ≡ 0 → ⊥) → (get_or s 0 0 ≡ length s → ⊥) → read_frame s ≡ refused 2 none
+unfolding read_frame
+frame_length [] h n = absurd (h refl)
+frame_length (x ∷ xs) h n = rw (ne_eqb x (suc (length xs)) n)
 
-pub frame-payload : (s : List ℕ) → (length s ≡ 0 → ⊥) → get_or s 0 0 ≡ length s → readFrame s ≡ readPayload (drop 1 s)
-unfolding readFrame
-frame-payload [] h n = absurd (h refl)
-frame-payload (x ∷ xs) h n = rw (eq-eqb x (suc (length xs)) n)
+pub frame_payload : (s : List ℕ) → (length s ≡ 0 → ⊥) → get_or s 0 0 ≡ length s → read_frame s ≡ read_payload (drop 1 s)
+unfolding read_frame
+frame_payload [] h n = absurd (h refl)
+frame_payload (x ∷ xs) h n = rw (eq-eqb x (suc (length xs)) n)

@@ -2,9 +2,9 @@
 #![tactic(auto)]
 
 ghost use Rattle.std.specs.Prelude.{◌≡◌, drop};
-ghost use Rattle.felica_format.specs.Read.{readFrame};
+ghost use Rattle.felica_format.specs.Read.{read_frame};
 ghost use Rattle.felica_command.specs.Meaning.{meaning, Canonical};
-ghost use Rattle.felica_command.specs.Places.{placesOf, readPlaces, Inside};
+ghost use Rattle.felica_command.specs.Places.{places_of, read_places, Inside};
 
 use felica_command::command::Parsed;
 use felica_format::error;
@@ -12,7 +12,7 @@ use felica_parse::parse_payload;
 
 // The length byte counts itself. The places of the parts count from the first byte behind it.
 pub fn parse_frame(frame: &[u8]) -> Parsed
-    ensures { (meaning (drop 1 frame.now) result ≡ readFrame frame.now) × (placesOf result ≡ readPlaces 1 (drop 1 frame.now) (readFrame frame.now)) × Canonical result × Inside (drop 1 frame.now) (placesOf result) }
+    ensures { (meaning (drop 1 frame.now) result ≡ read_frame frame.now) × (places_of result ≡ read_places 1 (drop 1 frame.now) (read_frame frame.now)) × Canonical result × Inside (drop 1 frame.now) (places_of result) }
 {
     if frame.len() == 0 {
         return Parsed::refused_without_code(error::EMPTY_FRAME);

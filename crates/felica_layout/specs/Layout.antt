@@ -3,7 +3,7 @@
 use Rattle.std.specs.Prelude.{ℕ}
 use Rattle.felica_format.specs.declared.classes.Class.{Class}
 use Rattle.felica_format.specs.Layout as format
-use Rattle.felica_format.specs.Layout.{classOf, layoutOf}
+use Rattle.felica_format.specs.Layout.{class_of, layout_of}
 use Rattle.felica_layout.specs.declared.Selector.{Selector}
 use Rattle.felica_layout.specs.declared.Selector.TheVariants.{NoSelector, TypeByte, AnyByte}
 use Rattle.felica_layout.specs.declared.Codes.{Codes}
@@ -15,32 +15,32 @@ use Rattle.felica_layout.specs.declared.Behind.TheVariants.{Nothing, IgnoredByte
 use Rattle.felica_layout.specs.declared.Layout.{Layout}
 use Rattle.felica_layout.specs.declared.Row.{Row}
 
-abbrev pub selectorMeant : Selector → format.Selector
-selectorMeant NoSelector = format.noSelector
-selectorMeant TypeByte = format.typeByte
-selectorMeant AnyByte = format.anyByte
+abbrev pub selector_meant : Selector → format.Selector
+selector_meant NoSelector = format.no_selector
+selector_meant TypeByte = format.type_byte
+selector_meant AnyByte = format.any_byte
 
-abbrev pub codesMeant : Codes → format.Codes
-codesMeant NoCodes = format.noCodes
-codesMeant (Counted b) = format.◌to◌ b.least b.greatest
+abbrev pub codes_meant : Codes → format.Codes
+codes_meant NoCodes = format.no_codes
+codes_meant (Counted b) = format.◌to◌ b.least b.greatest
 
-abbrev pub endingMeant : Ending → format.Ending
-endingMeant (Bytes n) = format.bytes n
-endingMeant Word = format.word
-endingMeant Words = format.words
-endingMeant Reserved = format.reserved
-endingMeant Polling = format.polling
-endingMeant Parameter = format.parameter
+abbrev pub ending_meant : Ending → format.Ending
+ending_meant (Bytes n) = format.bytes n
+ending_meant Word = format.word
+ending_meant Words = format.words
+ending_meant Reserved = format.reserved
+ending_meant Polling = format.polling
+ending_meant Parameter = format.parameter
 
-abbrev pub behindMeant : Behind → format.Behind
-behindMeant Nothing = format.nothing
-behindMeant IgnoredBytes = format.ignoredBytes
-behindMeant Package = format.aPackage
+abbrev pub behind_meant : Behind → format.Behind
+behind_meant Nothing = format.nothing
+behind_meant IgnoredBytes = format.ignored_bytes
+behind_meant Package = format.a_package
 
-abbrev pub layoutMeant : Layout → format.Layout
-layoutMeant l =
-    format.layout l.idm (selectorMeant l.selector) (codesMeant l.first) (codesMeant l.second) l.elements l.block_data
-    (endingMeant l.ending) (behindMeant l.behind)
+abbrev pub layout_meant : Layout → format.Layout
+layout_meant l =
+    format.layout l.idm (selector_meant l.selector) (codes_meant l.first) (codes_meant l.second) l.elements l.block_data
+    (ending_meant l.ending) (behind_meant l.behind)
 
 -- the class of a code and its layout
 pub record RowMeant : Type 0 where
@@ -50,8 +50,8 @@ pub record RowMeant : Type 0 where
 abbrev pub row : Class → format.Layout → RowMeant
 row class l = record { class = class; layout = l }
 
-unfoldable pub rowOf : ℕ → RowMeant
-rowOf code = row (classOf code) (layoutOf code)
+unfoldable pub row_of : ℕ → RowMeant
+row_of code = row (class_of code) (layout_of code)
 
-abbrev pub rowMeant : Row → RowMeant
-rowMeant r = row r.class (layoutMeant r.layout)
+abbrev pub row_meant : Row → RowMeant
+row_meant r = row r.class (layout_meant r.layout)

@@ -2,9 +2,9 @@
 #![tactic(auto)]
 
 ghost use Rattle.std.specs.Prelude.{◌≡◌, true, false};
-ghost use Rattle.felica_format.specs.Layout.{layout, noSelector, noCodes, ◌to◌, bytes, bare, nothing, ends, has, plainRows};
+ghost use Rattle.felica_format.specs.Layout.{layout, no_selector, no_codes, ◌to◌, bytes, bare, nothing, ends, has, plain_rows};
 ghost use Rattle.felica_format.specs.declared.classes.Class.TheVariants.{Plain, Secure, Unknown};
-ghost use Rattle.felica_layout.specs.Layout.{selectorMeant, endingMeant, behindMeant, row, rowMeant, rowOf};
+ghost use Rattle.felica_layout.specs.Layout.{selector_meant, ending_meant, behind_meant, row, row_meant, row_of};
 
 use felica_format::classes::Class;
 use felica_format::constants;
@@ -75,7 +75,7 @@ pub struct Row {
 
 // The bounds of service codes are those of node codes.
 pub fn row_of(code: u8) -> Row
-    ensures { rowMeant result ≡ rowOf code }
+    ensures { row_meant result ≡ row_of code }
 {
     match code {
         constants::POLLING_COMMAND_CODE => fixed(false, Ending::Polling),
@@ -116,8 +116,8 @@ pub fn row_of(code: u8) -> Row
 }
 
 fn secure_row(code: u8) -> Row
-    requires { has plainRows code ≡ false }
-    ensures { rowMeant result ≡ rowOf code }
+    requires { has plain_rows code ≡ false }
+    ensures { row_meant result ≡ row_of code }
 {
     match code {
         constants::READ_COMMAND_CODE | constants::READ_V2_COMMAND_CODE => payload_row(
@@ -152,7 +152,7 @@ fn secure_row(code: u8) -> Row
 
 // Without a list.
 fn fixed(idm: bool, ending: Ending) -> Row
-    ensures { rowMeant result ≡ row Plain (layout idm noSelector noCodes noCodes false false (endingMeant ending) nothing) }
+    ensures { row_meant result ≡ row Plain (layout idm no_selector no_codes no_codes false false (ending_meant ending) nothing) }
 {
     Row {
         class: Class::Plain,
@@ -171,7 +171,7 @@ fn fixed(idm: bool, ending: Ending) -> Row
 
 // With one code list, and a challenge or none.
 fn coded(selector: Selector, bounds: Bounds, challenge: usize) -> Row
-    ensures { rowMeant result ≡ row Plain (layout true (selectorMeant selector) (bounds.least to bounds.greatest) noCodes false false (bytes challenge) nothing) }
+    ensures { row_meant result ≡ row Plain (layout true (selector_meant selector) (bounds.least to bounds.greatest) no_codes false false (bytes challenge) nothing) }
 {
     Row {
         class: Class::Plain,
@@ -190,7 +190,7 @@ fn coded(selector: Selector, bounds: Bounds, challenge: usize) -> Row
 
 // With areas and services.
 fn two_code_lists() -> Row
-    ensures { rowMeant result ≡ row Plain (layout true noSelector (0 to 32) (0 to 32) false false (bytes 8) nothing) }
+    ensures { row_meant result ≡ row Plain (layout true no_selector (0 to 32) (0 to 32) false false (bytes 8) nothing) }
 {
     let bounds = constants::AREA_AND_SERVICE_CODES;
     Row {
@@ -209,7 +209,7 @@ fn two_code_lists() -> Row
 }
 
 fn codes_and_blocks(block_data: bool) -> Row
-    ensures { rowMeant result ≡ row Plain (layout true noSelector (1 to 16) noCodes true block_data bare nothing) }
+    ensures { row_meant result ≡ row Plain (layout true no_selector (1 to 16) no_codes true block_data bare nothing) }
 {
     Row {
         class: Class::Plain,
@@ -227,7 +227,7 @@ fn codes_and_blocks(block_data: bool) -> Row
 }
 
 fn payload_row(elements: bool, block_data: bool, ending: Ending, behind: Behind) -> Row
-    ensures { rowMeant result ≡ row Secure (layout false noSelector noCodes noCodes elements block_data (endingMeant ending) (behindMeant behind)) }
+    ensures { row_meant result ≡ row Secure (layout false no_selector no_codes no_codes elements block_data (ending_meant ending) (behind_meant behind)) }
 {
     Row {
         class: Class::Secure,
@@ -245,7 +245,7 @@ fn payload_row(elements: bool, block_data: bool, ending: Ending, behind: Behind)
 }
 
 fn unknown_row() -> Row
-    ensures { rowMeant result ≡ row Unknown (ends bare) }
+    ensures { row_meant result ≡ row Unknown (ends bare) }
 {
     Row {
         class: Class::Unknown,

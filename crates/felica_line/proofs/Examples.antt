@@ -3,6 +3,6 @@
 use mathlib.Core.Path.{refl}
 use Rattle.felica_line.specs.Examples.{AllMarked, marks}
 
-pub all-marked : AllMarked marks
+pub all_marked : AllMarked marks
 unfolding AllMarked marks
-all-marked = refl
+all_marked = refl

@@ -5,10 +5,10 @@ use mathlib.Core.Path.{◌≡◌, refl, sym, ap, ◌∙◌, subst}
 use mathlib.Core.Bool.{Bool, true, false}
 use mathlib.Core.List.{List, ◌++◌}
 use lib.ListN.{drop}
-use Rattle.felica_format.specs.Read.{Answer as Reading, readFrame}
-use Rattle.felica_command.specs.Meaning.{codesAt, fieldsOf, refusalIs, answerIs, meaning}
-use Rattle.felica_command.specs.Places.{answerPlaces, placesOf, CodesInside, Inside}
-use Rattle.felica_command.specs.Lists.{listsIn}
+use Rattle.felica_format.specs.Read.{Answer as Reading, read_frame}
+use Rattle.felica_command.specs.Meaning.{codes_at, fields_of, refusal_is, answer_is, meaning}
+use Rattle.felica_command.specs.Places.{answer_places, places_of, CodesInside, Inside}
+use Rattle.felica_command.specs.Lists.{lists_in}
 use Rattle.felica_command.specs.declared.command.FelicaStandardCommand.{FelicaStandardCommand}
 use Rattle.felica_command.specs.declared.command.Refusal.{Refusal}
 use Rattle.felica_command.specs.declared.command.Refusal.TheVariants.{Number, OfCommand}
@@ -16,35 +16,35 @@ use Rattle.felica_command.specs.declared.command.Answer.{Answer}
 use Rattle.felica_command.specs.declared.command.Answer.TheVariants.{Command as AnswerCommand, Refused as AnswerRefused}
 use Rattle.felica_command.specs.declared.command.Parsed.{Parsed}
 use Rattle.felica_command.specs.declared.lists.Lists.{Lists}
-use Rattle.felica_command.proofs.Inside.{values-counted}
-use Rattle.felica_fields.specs.Refused.{refusalText}
-use Rattle.felica_line.specs.Line.{acceptedText, frameText, isAccepted, blocksIn}
+use Rattle.felica_command.proofs.Inside.{values_counted}
+use Rattle.felica_fields.specs.Refused.{refusal_text}
+use Rattle.felica_line.specs.Line.{accepted_text, frame_text, is_accepted, blocks_in}
 
 -- what a line says of a reading: its text, whether it is accepted, and its blocks
 abbrev Says : Reading → List ℕ → Bool → ℕ → Type 0
-Says reading text accepted blocks = (text ≡ frameText reading) × (accepted ≡ isAccepted reading) × (blocks ≡ blocksIn reading)
+Says reading text accepted blocks = (text ≡ frame_text reading) × (accepted ≡ is_accepted reading) × (blocks ≡ blocks_in reading)
 
-module _ (s : List ℕ) (p : Parsed) {kind : FelicaStandardCommand} {l : Lists} (e : p.answer ≡ AnswerCommand kind) (is : l ≡ listsIn (fieldsOf kind)) (inside : Inside s (placesOf p)) where
-  pub codes-inside : CodesInside s l.first_codes × CodesInside s l.second_codes
-  codes-inside =
-      let q = subst (λ (a : Answer). Inside s (answerPlaces a)) e inside in
+module _ (s : List ℕ) (p : Parsed) {kind : FelicaStandardCommand} {l : Lists} (e : p.answer ≡ AnswerCommand kind) (is : l ≡ lists_in (fields_of kind)) (inside : Inside s (places_of p)) where
+  pub codes_inside : CodesInside s l.first_codes × CodesInside s l.second_codes
+  codes_inside =
+      let q = subst (λ (a : Answer). Inside s (answer_places a)) e inside in
       subst (λ (x : Lists). CodesInside s x.first_codes × CodesInside s x.second_codes) (sym is) (q.0, q.1)
 
-  pub command-says : {code : ℕ} → code ≡ (fieldsOf kind).code
-      → Says (meaning s p) (acceptedText code (codesAt s l.first_codes ++ codesAt s l.second_codes) l.block_list.count p.long) true l.block_list.count
-  command-says {code} same =
-      let q = subst (λ (a : Answer). Inside s (answerPlaces a)) e inside in
-      let counted = values-counted s (fieldsOf kind).elements (λ x. x.number) q.2 in
-      subst (λ (a : Answer). Says (answerIs s p.idm p.challenge p.long a) (acceptedText code (codesAt s l.first_codes ++ codesAt s l.second_codes) l.block_list.count p.long) true l.block_list.count) (sym e)
+  pub command_says : {code : ℕ} → code ≡ (fields_of kind).code
+      → Says (meaning s p) (accepted_text code (codes_at s l.first_codes ++ codes_at s l.second_codes) l.block_list.count p.long) true l.block_list.count
+  command_says {code} same =
+      let q = subst (λ (a : Answer). Inside s (answer_places a)) e inside in
+      let counted = values_counted s (fields_of kind).elements (λ x. x.number) q.2 in
+      subst (λ (a : Answer). Says (answer_is s p.idm p.challenge p.long a) (accepted_text code (codes_at s l.first_codes ++ codes_at s l.second_codes) l.block_list.count p.long) true l.block_list.count) (sym e)
       (rw (is, same, counted) (refl, refl, refl))
 
-pub refused-says : (s : List ℕ) (p : Parsed) {why : Refusal} → p.answer ≡ AnswerRefused why → Says (meaning s p) (refusalText why) false 0
-refused-says s p {why} e = subst (λ (a : Answer). Says (answerIs s p.idm p.challenge p.long a) (refusalText why) false 0) (sym e) (same why)
+pub refused_says : (s : List ℕ) (p : Parsed) {why : Refusal} → p.answer ≡ AnswerRefused why → Says (meaning s p) (refusal_text why) false 0
+refused_says s p {why} e = subst (λ (a : Answer). Says (answer_is s p.idm p.challenge p.long a) (refusal_text why) false 0) (sym e) (same why)
   where
-    same : (why : Refusal) → Says (refusalIs why) (refusalText why) false 0
+    same : (why : Refusal) → Says (refusal_is why) (refusal_text why) false 0
     same (Number n) = (refl, refl, refl)
     same (OfCommand n code) = (refl, refl, refl)
 
 -- the payload of a frame gives what the frame gives
-pub frame-says : (frame payload : List ℕ) (p : Parsed) → payload ≡ drop 1 frame → meaning (drop 1 frame) p ≡ readFrame frame → meaning payload p ≡ readFrame frame
-frame-says frame payload p is e = ap (λ (s : List ℕ). meaning s p) is ∙ e
+pub frame_says : (frame payload : List ℕ) (p : Parsed) → payload ≡ drop 1 frame → meaning (drop 1 frame) p ≡ read_frame frame → meaning payload p ≡ read_frame frame
+frame_says frame payload p is e = ap (λ (s : List ℕ). meaning s p) is ∙ e

@@ -1,9 +1,9 @@
 // What an accepted frame is listed by: its code, how many codes and blocks it has and how many of these were long, and a mark for each code.
 ghost use Rattle.std.specs.Prelude.{◌≡◌, [], ◌∷◌, ◌++◌};
-ghost use Rattle.felica_command.specs.Meaning.{codesAt};
+ghost use Rattle.felica_command.specs.Meaning.{codes_at};
 ghost use Rattle.felica_command.specs.Places.{CodesInside};
 ghost use Rattle.felica_put.specs.Put.{buffer, put};
-ghost use Rattle.felica_line.specs.Line.{markText, marksText, markField, acceptedText};
+ghost use Rattle.felica_line.specs.Line.{mark_text, marks_text, mark_field, accepted_text};
 
 use felica_command::command::Part;
 use felica_cursor::cursor::word_of;
@@ -22,7 +22,7 @@ pub(crate) fn put_accepted(
     long: u8,
 ) -> usize
     requires { CodesInside payload.now first × CodesInside payload.now second }
-    ensures { buffer out.new result ≡ put (buffer out.old at) (acceptedText code (codesAt payload.now first ++ codesAt payload.now second) blocks long) }
+    ensures { buffer out.new result ≡ put (buffer out.old at) (accepted_text code (codes_at payload.now first ++ codes_at payload.now second) blocks long) }
 {
     let code_at = put_bytes(out, at, b"OK ");
     let code_end = put_hex_byte(out, code_at, code);
@@ -38,7 +38,7 @@ pub(crate) fn put_accepted(
 
 fn put_mark_field(out: &mut [u8], at: usize, payload: &[u8], first: Part, second: Part) -> usize
     requires { CodesInside payload.now first × CodesInside payload.now second }
-    ensures { buffer out.new result ≡ put (buffer out.old at) (markField (codesAt payload.now first ++ codesAt payload.now second)) }
+    ensures { buffer out.new result ≡ put (buffer out.old at) (mark_field (codes_at payload.now first ++ codes_at payload.now second)) }
 {
     if first.count + second.count == 0 {
         return put_byte(out, at, b'-');
@@ -49,7 +49,7 @@ fn put_mark_field(out: &mut [u8], at: usize, payload: &[u8], first: Part, second
 
 fn put_marks(out: &mut [u8], at: usize, payload: &[u8], list: Part) -> usize
     requires { CodesInside payload.now list }
-    ensures { buffer out.new result ≡ put (buffer out.old at) (marksText (codesAt payload.now list)) }
+    ensures { buffer out.new result ≡ put (buffer out.old at) (marks_text (codes_at payload.now list)) }
 {
     let count = list.count;
     let mut from = list.start;
@@ -66,7 +66,7 @@ fn put_marks(out: &mut [u8], at: usize, payload: &[u8], list: Part) -> usize
 
 // The system, an area, a service that needs no key, or one that needs one.
 fn mark_of(code: u16) -> u8
-    ensures { result ∷ [] ≡ markText code }
+    ensures { result ∷ [] ≡ mark_text code }
 {
     if code == 0xFFFF {
         b's'

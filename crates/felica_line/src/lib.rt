@@ -2,11 +2,11 @@
 #![tactic(auto)]
 
 ghost use Rattle.std.specs.Prelude.{◌≡◌};
-ghost use Rattle.felica_format.specs.Read.{readFrame};
+ghost use Rattle.felica_format.specs.Read.{read_frame};
 ghost use Rattle.felica_command.specs.Meaning.{meaning};
-ghost use Rattle.felica_command.specs.Places.{placesOf, Inside};
+ghost use Rattle.felica_command.specs.Places.{places_of, Inside};
 ghost use Rattle.felica_put.specs.Put.{buffer, put};
-ghost use Rattle.felica_line.specs.Line.{frameText, recordLine, isAccepted, blocksIn};
+ghost use Rattle.felica_line.specs.Line.{frame_text, record_line, is_accepted, blocks_in};
 
 mod accepted;
 
@@ -26,7 +26,7 @@ pub struct FrameLine {
 }
 
 pub fn put_frame_line(out: &mut [u8], at: usize, ordinal: usize, frame: &[u8]) -> FrameLine
-    ensures { (buffer out.new result.next ≡ put (buffer out.old at) (recordLine ordinal (readFrame frame.now))) × (result.accepted ≡ isAccepted (readFrame frame.now)) × (result.blocks ≡ blocksIn (readFrame frame.now)) }
+    ensures { (buffer out.new result.next ≡ put (buffer out.old at) (record_line ordinal (read_frame frame.now))) × (result.accepted ≡ is_accepted (read_frame frame.now)) × (result.blocks ≡ blocks_in (read_frame frame.now)) }
 {
     let space_at = put_decimal(out, at, ordinal);
     let result_at = put_byte(out, space_at, b' ');
@@ -41,8 +41,8 @@ pub fn put_frame_line(out: &mut [u8], at: usize, ordinal: usize, frame: &[u8]) -
 
 // What the parser gave for the payload, without ordinal and line feed.
 fn put_result(out: &mut [u8], at: usize, payload: &[u8], parsed: Parsed) -> FrameLine
-    requires { Inside payload.now (placesOf parsed) }
-    ensures { (buffer out.new result.next ≡ put (buffer out.old at) (frameText (meaning payload.now parsed))) × (result.accepted ≡ isAccepted (meaning payload.now parsed)) × (result.blocks ≡ blocksIn (meaning payload.now parsed)) }
+    requires { Inside payload.now (places_of parsed) }
+    ensures { (buffer out.new result.next ≡ put (buffer out.old at) (frame_text (meaning payload.now parsed))) × (result.accepted ≡ is_accepted (meaning payload.now parsed)) × (result.blocks ≡ blocks_in (meaning payload.now parsed)) }
 {
     let answer = parsed.answer;
     match answer {

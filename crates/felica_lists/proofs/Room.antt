@@ -8,7 +8,7 @@ use Prim.Native.Nat.{ℕ}
 use lib.ListN.{length}
 use borrow.Author.Tests.{le-leb, lt-leb}
 use Rattle.felica_format.specs.Basic.{◌and◌}
-use Rattle.felica_format.proofs.Tests.{and-both}
+use Rattle.felica_format.proofs.Tests.{and_both}
 use Rattle.felica_lists.specs.Lists.{Buffers, buffers, fits, front}
 use Rattle.felica_lists.specs.Fill.{filled, fill}
 
@@ -29,16 +29,16 @@ unfolding ◌and◌
 later true b e = e
 later false b e = refl
 
-short-fits : (lists b : Buffers) → Short lists b → fits lists b ≡ false
+short_fits : (lists b : Buffers) → Short lists b → fits lists b ≡ false
 unfolding fits
-short-fits lists b (first h) = here _ _ (lt-leb _ _ h)
-short-fits lists b (second h) = later _ _ (here _ _ (lt-leb _ _ h))
-short-fits lists b (numbers h) = later _ _ (later _ _ (here _ _ (lt-leb _ _ h)))
-short-fits lists b (places h) = later _ _ (later _ _ (later _ _ (here _ _ (lt-leb _ _ h))))
-short-fits lists b (modes h) = later _ _ (later _ _ (later _ _ (later _ _ (lt-leb _ _ h))))
+short_fits lists b (first h) = here _ _ (lt-leb _ _ h)
+short_fits lists b (second h) = later _ _ (here _ _ (lt-leb _ _ h))
+short_fits lists b (numbers h) = later _ _ (later _ _ (here _ _ (lt-leb _ _ h)))
+short_fits lists b (places h) = later _ _ (later _ _ (later _ _ (here _ _ (lt-leb _ _ h))))
+short_fits lists b (modes h) = later _ _ (later _ _ (later _ _ (later _ _ (lt-leb _ _ h))))
 
-pub none-filled : (lists b : Buffers) → Short lists b → filled false b ≡ fill lists b
-none-filled lists b short = rw (short-fits lists b short)
+pub none_filled : (lists b : Buffers) → Short lists b → filled false b ≡ fill lists b
+none_filled lists b short = rw (short_fits lists b short)
 
 -- none is
 pub record Room (lists b : Buffers) : Type 0 where
@@ -48,13 +48,13 @@ pub record Room (lists b : Buffers) : Type 0 where
   pub places : length lists.places ≤ length b.places
   pub modes : length lists.modes ≤ length b.modes
 
-room-fits : (lists b : Buffers) → Room lists b → fits lists b ≡ true
+room_fits : (lists b : Buffers) → Room lists b → fits lists b ≡ true
 unfolding fits
-room-fits lists b room =
-    and-both (le-leb _ _ room.first) (and-both (le-leb _ _ room.second) (and-both (le-leb _ _ room.numbers)
-    (and-both (le-leb _ _ room.places) (le-leb _ _ room.modes))))
+room_fits lists b room =
+    and_both (le-leb _ _ room.first) (and_both (le-leb _ _ room.second) (and_both (le-leb _ _ room.numbers)
+    (and_both (le-leb _ _ room.places) (le-leb _ _ room.modes))))
 
-pub all-filled : (lists b : Buffers) {f g n p m : List ℕ} → Room lists b → f ≡ front lists.first b.first → g ≡ front lists.second b.second
+pub all_filled : (lists b : Buffers) {f g n p m : List ℕ} → Room lists b → f ≡ front lists.first b.first → g ≡ front lists.second b.second
     → n ≡ front lists.numbers b.numbers → p ≡ front lists.places b.places → m ≡ front lists.modes b.modes
     → filled true (buffers f g n p m) ≡ fill lists b
-all-filled lists b room e₁ e₂ e₃ e₄ e₅ = rw (e₁, e₂, e₃, e₄, e₅, room-fits lists b room)
+all_filled lists b room e₁ e₂ e₃ e₄ e₅ = rw (e₁, e₂, e₃, e₄, e₅, room_fits lists b room)

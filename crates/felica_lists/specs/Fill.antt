@@ -2,9 +2,9 @@
 -- Assumes nothing.
 use Rattle.std.specs.Prelude.{ℕ, Bool, true, false, cond, List, map}
 use Rattle.std.proofs.Math.Option.{some}
-use Rattle.felica_command.specs.Meaning.{codesAt, elementsAt, fieldsOf, refusal}
+use Rattle.felica_command.specs.Meaning.{codes_at, elements_at, fields_of, refusal}
 use Rattle.felica_command.specs.Places.{CodesInside, ElementsInside}
-use Rattle.felica_command.specs.Lists.{listsIn}
+use Rattle.felica_command.specs.Lists.{lists_in}
 use Rattle.felica_command.specs.declared.command.Part.{Part}
 use Rattle.felica_command.specs.declared.command.Answer.{Answer}
 use Rattle.felica_command.specs.declared.command.Answer.TheVariants.{Command as AnswerCommand, Refused as AnswerRefused}
@@ -13,20 +13,20 @@ use Rattle.felica_command.specs.declared.lists.Lists.{Lists}
 use Rattle.felica_lists.specs.Lists.{Buffers, buffers, fits, fronts}
 
 -- of a block list, one value of each element
-abbrev pub numbersAt : List ℕ → Part → List ℕ
-numbersAt s p = map (λ e. e.number) (elementsAt s p)
+abbrev pub numbers_at : List ℕ → Part → List ℕ
+numbers_at s p = map (λ e. e.number) (elements_at s p)
 
-abbrev pub placesAt : List ℕ → Part → List ℕ
-placesAt s p = map (λ e. e.place) (elementsAt s p)
+abbrev pub places_at : List ℕ → Part → List ℕ
+places_at s p = map (λ e. e.place) (elements_at s p)
 
-abbrev pub modesAt : List ℕ → Part → List ℕ
-modesAt s p = map (λ e. e.mode) (elementsAt s p)
+abbrev pub modes_at : List ℕ → Part → List ℕ
+modes_at s p = map (λ e. e.mode) (elements_at s p)
 
 -- what the lists of a command hold in the payload s
-abbrev pub listsAt : List ℕ → Lists → Buffers
-listsAt s l =
-    buffers (codesAt s l.first_codes) (codesAt s l.second_codes) (numbersAt s l.block_list) (placesAt s l.block_list)
-    (modesAt s l.block_list)
+abbrev pub lists_at : List ℕ → Lists → Buffers
+lists_at s l =
+    buffers (codes_at s l.first_codes) (codes_at s l.second_codes) (numbers_at s l.block_list) (places_at s l.block_list)
+    (modes_at s l.block_list)
 
 -- all lists of a command lie inside the payload s
 abbrev pub ListsInside : List ℕ → Lists → Type 0
@@ -52,12 +52,12 @@ abbrev pub given : Parsed → Buffers → Given
 given result b = record { result = result; buffers = b }
 
 -- what the list reader makes of a result of the parser
-abbrev pub giveFilled : Parsed → ℕ → Filled → Given
-giveFilled parsed code f = given (cond f.done parsed (refusal 21 (some code))) f.buffers
+abbrev pub give_filled : Parsed → ℕ → Filled → Given
+give_filled parsed code f = given (cond f.done parsed (refusal 21 (some code))) f.buffers
 
-abbrev pub giveAnswer : List ℕ → Parsed → Answer → Buffers → Given
-giveAnswer s parsed (AnswerCommand kind) b = giveFilled parsed (fieldsOf kind).code (fill (listsAt s (listsIn (fieldsOf kind))) b)
-giveAnswer s parsed (AnswerRefused why) b = given parsed b
+abbrev pub give_answer : List ℕ → Parsed → Answer → Buffers → Given
+give_answer s parsed (AnswerCommand kind) b = give_filled parsed (fields_of kind).code (fill (lists_at s (lists_in (fields_of kind))) b)
+give_answer s parsed (AnswerRefused why) b = given parsed b
 
 abbrev pub give : List ℕ → Parsed → Buffers → Given
-give s parsed b = giveAnswer s parsed parsed.answer b
+give s parsed b = give_answer s parsed parsed.answer b

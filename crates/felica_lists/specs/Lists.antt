@@ -18,8 +18,8 @@ abbrev pub buffers : List ℕ → List ℕ → List ℕ → List ℕ → List �
 buffers first second numbers places modes = record { first = first; second = second; numbers = numbers; places = places; modes = modes }
 
 -- the list of a command for each buffer
-abbrev pub listsOf : Command → Buffers
-listsOf c = buffers c.first c.second c.numbers c.places c.modes
+abbrev pub lists_of : Command → Buffers
+lists_of c = buffers c.first c.second c.numbers c.places c.modes
 
 -- no buffer is shorter than its list
 unfoldable pub fits : Buffers → Buffers → Bool
@@ -46,11 +46,11 @@ abbrev pub outcome : Reading → Buffers → Outcome
 outcome answer b = record { answer = answer; buffers = b }
 
 -- "It parses first, then gives 21 exactly when a buffer is shorter than its list."
-abbrev pub listedIf : Bool → Command → ℕ → Buffers → Outcome
-listedIf true c long b = outcome (gives c long) (fronts (listsOf c) b)
-listedIf false c long b = outcome (refused 21 (some c.code)) b
+abbrev pub listed_if : Bool → Command → ℕ → Buffers → Outcome
+listed_if true c long b = outcome (gives c long) (fronts (lists_of c) b)
+listed_if false c long b = outcome (refused 21 (some c.code)) b
 
 -- the outcome for what the bytes give and the buffers before the call
 abbrev pub listed : Reading → Buffers → Outcome
-listed (gives c long) b = listedIf (fits (listsOf c) b) c long b
+listed (gives c long) b = listed_if (fits (lists_of c) b) c long b
 listed (refused n code) b = outcome (refused n code) b

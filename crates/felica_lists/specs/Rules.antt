@@ -3,11 +3,11 @@
 use Rattle.std.specs.Prelude.{ℕ, ◌≡◌, ◌⊎◌, ◌↔◌, false, List}
 use Rattle.std.proofs.Math.Option.{Option, some}
 use Rattle.felica_format.specs.Command.{Command}
-use Rattle.felica_format.specs.Read.{Answer as Reading, gives, refused, readFrame, readPayload, readSecure}
+use Rattle.felica_format.specs.Read.{Answer as Reading, gives, refused, read_frame, read_payload, read_secure}
 use Rattle.felica_command.specs.Meaning.{meaning, Canonical, refusal}
-use Rattle.felica_command.specs.Places.{placesOf, readPlaces, Account, Inside}
+use Rattle.felica_command.specs.Places.{places_of, read_places, Account, Inside}
 use Rattle.felica_command.specs.declared.command.Parsed.{Parsed}
-use Rattle.felica_lists.specs.Lists.{Buffers, listsOf, fits, outcome, listed}
+use Rattle.felica_lists.specs.Lists.{Buffers, lists_of, fits, outcome, listed}
 
 -- "No lent buffer is touched" by a refusal.
 abbrev pub RefusedUntouched : Type 0
@@ -15,26 +15,26 @@ RefusedUntouched = (reading : Reading) (b : Buffers) (n : ℕ) (code : Option �
 
 -- the bytes give a command with this code, and a buffer is shorter than its list
 abbrev pub TooSmall : Reading → Buffers → Option ℕ → Type 0
-TooSmall reading b code = (c : Command) × (long : ℕ) × (reading ≡ gives c long) × (fits (listsOf c) b ≡ false) × (code ≡ some c.code)
+TooSmall reading b code = (c : Command) × (long : ℕ) × (reading ≡ gives c long) × (fits (lists_of c) b ≡ false) × (code ≡ some c.code)
 
 -- "21 exactly when a buffer is shorter than its list"
 abbrev pub TwentyOneExactly : Reading → Type 0
 TwentyOneExactly reading = (b : Buffers) (code : Option ℕ) → ((listed reading b).answer ≡ refused 21 code) ↔ TooSmall reading b code
 
 abbrev pub FrameTwentyOne : Type 0
-FrameTwentyOne = (s : List ℕ) → TwentyOneExactly (readFrame s)
+FrameTwentyOne = (s : List ℕ) → TwentyOneExactly (read_frame s)
 
 abbrev pub PayloadTwentyOne : Type 0
-PayloadTwentyOne = (s : List ℕ) → TwentyOneExactly (readPayload s)
+PayloadTwentyOne = (s : List ℕ) → TwentyOneExactly (read_payload s)
 
 abbrev pub SecureTwentyOne : Type 0
-SecureTwentyOne = (code : ℕ) (s : List ℕ) → TwentyOneExactly (readSecure code s)
+SecureTwentyOne = (code : ℕ) (s : List ℕ) → TwentyOneExactly (read_secure code s)
 
 -- The contract of the list reader: for the payload s, whose body begins at `at`, the definitions say `reading`; the buffers held b, the result is r, and
 -- then they hold a.
 abbrev pub ListAccount : List ℕ → ℕ → Reading → Buffers → Parsed → Buffers → Type 0
 ListAccount s at reading b r a =
-    (outcome (meaning s r) a ≡ listed reading b) × (placesOf r ≡ readPlaces at s (meaning s r)) × Canonical r × Inside s (placesOf r)
+    (outcome (meaning s r) a ≡ listed reading b) × (places_of r ≡ read_places at s (meaning s r)) × Canonical r × Inside s (places_of r)
 
 -- It leaves nothing open: no two results meet it, and no two contents of the buffers.
 abbrev pub OneListAccount : Type 0

@@ -1,9 +1,9 @@
 // The lists of a command, read from the payload and written to the front of their buffers.
 ghost use Rattle.std.specs.Prelude.{◌≡◌, ◌≤◌, length};
-ghost use Rattle.felica_command.specs.Meaning.{codesAt};
+ghost use Rattle.felica_command.specs.Meaning.{codes_at};
 ghost use Rattle.felica_command.specs.Places.{CodesInside, ElementsInside};
 ghost use Rattle.felica_lists.specs.Lists.{buffers, front};
-ghost use Rattle.felica_lists.specs.Fill.{numbersAt, placesAt, modesAt, listsAt, ListsInside, filled, fill as filling};
+ghost use Rattle.felica_lists.specs.Fill.{numbers_at, places_at, modes_at, lists_at, ListsInside, filled, fill as filling};
 
 use felica_command::command::Part;
 use felica_command::lists::Lists;
@@ -21,7 +21,7 @@ pub(crate) fn fill(
     modes: &mut [u8],
 ) -> bool
     requires { ListsInside payload.now lists }
-    ensures { filled result (buffers first.new second.new numbers.new places.new modes.new) ≡ filling (listsAt payload.now lists) (buffers first.old second.old numbers.old places.old modes.old) }
+    ensures { filled result (buffers first.new second.new numbers.new places.new modes.new) ≡ filling (lists_at payload.now lists) (buffers first.old second.old numbers.old places.old modes.old) }
 {
     let first_codes = lists.first_codes;
     let second_codes = lists.second_codes;
@@ -49,7 +49,7 @@ pub(crate) fn fill(
 
 fn fill_codes(payload: &[u8], list: Part, out: &mut [u16])
     requires { CodesInside payload.now list × (list.count ≤ length out.old) }
-    ensures { out.new ≡ front (codesAt payload.now list) out.old }
+    ensures { out.new ≡ front (codes_at payload.now list) out.old }
 {
     let count = list.count;
     let mut at = list.start;
@@ -63,7 +63,7 @@ fn fill_codes(payload: &[u8], list: Part, out: &mut [u16])
 
 fn fill_blocks(payload: &[u8], list: Part, numbers: &mut [u16], places: &mut [u8], modes: &mut [u8])
     requires { ElementsInside payload.now list × (list.count ≤ length numbers.old) × (list.count ≤ length places.old) × (list.count ≤ length modes.old) }
-    ensures { (numbers.new ≡ front (numbersAt payload.now list) numbers.old) × (places.new ≡ front (placesAt payload.now list) places.old) × (modes.new ≡ front (modesAt payload.now list) modes.old) }
+    ensures { (numbers.new ≡ front (numbers_at payload.now list) numbers.old) × (places.new ≡ front (places_at payload.now list) places.old) × (modes.new ≡ front (modes_at payload.now list) modes.old) }
 {
     let blocks = list.count;
     let mut at = list.start;

@@ -1,12 +1,12 @@
 // The list reader. It parses, then writes first codes, second codes, block numbers, service places and access modes to the front of five lent buffers. Where one
 // is shorter than its list, it gives 21 and writes nothing. In the contracts the buffer `places` has the elements' places in the service list; `places_of` and
-// `readPlaces` say where the parts of the result stand.
+// `read_places` say where the parts of the result stand.
 #![tactic(auto)]
 
 ghost use Rattle.std.specs.Prelude.{◌≡◌, drop};
-ghost use Rattle.felica_format.specs.Read.{readFrame, readPayload, readSecure};
+ghost use Rattle.felica_format.specs.Read.{read_frame, read_payload, read_secure};
 ghost use Rattle.felica_command.specs.Meaning.{meaning, Canonical};
-ghost use Rattle.felica_command.specs.Places.{placesOf, readPlaces, Inside};
+ghost use Rattle.felica_command.specs.Places.{places_of, read_places, Inside};
 ghost use Rattle.felica_lists.specs.Lists.{buffers, outcome, listed};
 ghost use Rattle.felica_lists.specs.Fill.{given, give};
 
@@ -28,7 +28,7 @@ pub fn list_frame(
     places: &mut [u8],
     modes: &mut [u8],
 ) -> Parsed
-    ensures { (outcome (meaning (drop 1 frame.now) result) (buffers first.new second.new numbers.new places.new modes.new) ≡ listed (readFrame frame.now) (buffers first.old second.old numbers.old places.old modes.old)) × (placesOf result ≡ readPlaces 1 (drop 1 frame.now) (meaning (drop 1 frame.now) result)) × Canonical result × Inside (drop 1 frame.now) (placesOf result) }
+    ensures { (outcome (meaning (drop 1 frame.now) result) (buffers first.new second.new numbers.new places.new modes.new) ≡ listed (read_frame frame.now) (buffers first.old second.old numbers.old places.old modes.old)) × (places_of result ≡ read_places 1 (drop 1 frame.now) (meaning (drop 1 frame.now) result)) × Canonical result × Inside (drop 1 frame.now) (places_of result) }
 {
     let payload = payload_of(frame);
     let parsed = parse_frame(frame);
@@ -44,7 +44,7 @@ pub fn list_payload(
     places: &mut [u8],
     modes: &mut [u8],
 ) -> Parsed
-    ensures { (outcome (meaning payload.now result) (buffers first.new second.new numbers.new places.new modes.new) ≡ listed (readPayload payload.now) (buffers first.old second.old numbers.old places.old modes.old)) × (placesOf result ≡ readPlaces 1 payload.now (meaning payload.now result)) × Canonical result × Inside payload.now (placesOf result) }
+    ensures { (outcome (meaning payload.now result) (buffers first.new second.new numbers.new places.new modes.new) ≡ listed (read_payload payload.now) (buffers first.old second.old numbers.old places.old modes.old)) × (places_of result ≡ read_places 1 payload.now (meaning payload.now result)) × Canonical result × Inside payload.now (places_of result) }
 {
     let parsed = parse_payload(payload);
     list_parsed(payload, parsed, first, second, numbers, places, modes)
@@ -60,7 +60,7 @@ pub fn list_secure_payload(
     places: &mut [u8],
     modes: &mut [u8],
 ) -> Parsed
-    ensures { (outcome (meaning payload.now result) (buffers first.new second.new numbers.new places.new modes.new) ≡ listed (readSecure command_code payload.now) (buffers first.old second.old numbers.old places.old modes.old)) × (placesOf result ≡ readPlaces 0 payload.now (meaning payload.now result)) × Canonical result × Inside payload.now (placesOf result) }
+    ensures { (outcome (meaning payload.now result) (buffers first.new second.new numbers.new places.new modes.new) ≡ listed (read_secure command_code payload.now) (buffers first.old second.old numbers.old places.old modes.old)) × (places_of result ≡ read_places 0 payload.now (meaning payload.now result)) × Canonical result × Inside payload.now (places_of result) }
 {
     let parsed = parse_secure_payload(command_code, payload);
     list_parsed(payload, parsed, first, second, numbers, places, modes)
@@ -76,7 +76,7 @@ fn list_parsed(
     places: &mut [u8],
     modes: &mut [u8],
 ) -> Parsed
-    requires { Inside payload.now (placesOf parsed) }
+    requires { Inside payload.now (places_of parsed) }
     ensures { given result (buffers first.new second.new numbers.new places.new modes.new) ≡ give payload.now parsed (buffers first.old second.old numbers.old places.old modes.old) }
 {
     let answer = parsed.answer;

@@ -1,24 +1,24 @@
 -- The table of specs/Examples.antt, computed.
 -- Assumes nothing.
 use mathlib.Core.Path.{refl}
-use Rattle.felica_format.specs.Basic.{◌and◌, bind, refuseIf}
-use Rattle.felica_format.specs.Layout.{plainRows, secureRows, has, classOf, layoutIn, layoutOf}
-use Rattle.felica_format.specs.Read.{readIdm, readSelector, readCount, wordsOf, readWords, readCodes, readShort, readLong, readElement, readEach}
-use Rattle.felica_format.specs.Read.{readElements, readData, isTimeSlots, readValues, readEnding, readPackage, readBody, readPayload, readFrame}
-use Rattle.felica_text.specs.Text.{decimalDigits, decimalText}
-use Rattle.felica_line.specs.Line.{marksText, markField, acceptedText, recordLine}
-use Rattle.felica_log.specs.Listing.{front, totalLine, listingFrom, listing}
+use Rattle.felica_format.specs.Basic.{◌and◌, bind, refuse_if}
+use Rattle.felica_format.specs.Layout.{plain_rows, secure_rows, has, class_of, layout_in, layout_of}
+use Rattle.felica_format.specs.Read.{read_idm, read_selector, read_count, words_of, read_words, read_codes, read_short, read_long, read_element, read_each}
+use Rattle.felica_format.specs.Read.{read_elements, read_data, is_time_slots, read_values, read_ending, read_package, read_body, read_payload, read_frame}
+use Rattle.felica_text.specs.Text.{decimal_digits, decimal_text}
+use Rattle.felica_line.specs.Line.{marks_text, mark_field, accepted_text, record_line}
+use Rattle.felica_log.specs.Listing.{front, total_line, listing_from, listing}
 use Rattle.felica_log.specs.Examples.{AllSamplesListed, samples}
 
 -- opens all that reading and listing are made of
 reading : Unit {0}
-unfolding ◌and◌ bind refuseIf readFrame readPayload readBody readIdm readSelector readCodes readCount readWords wordsOf readElements readEach readElement readShort readLong readData readEnding readValues isTimeSlots readPackage classOf layoutOf has layoutIn plainRows secureRows
+unfolding ◌and◌ bind refuse_if read_frame read_payload read_body read_idm read_selector read_codes read_count read_words words_of read_elements read_each read_element read_short read_long read_data read_ending read_values is_time_slots read_package class_of layout_of has layout_in plain_rows secure_rows
 reading = tt
 
 lining : Unit {0}
-unfolding decimalText decimalDigits marksText markField acceptedText recordLine front totalLine listingFrom listing
+unfolding decimal_text decimal_digits marks_text mark_field accepted_text record_line front total_line listing_from listing
 lining = tt
 
-pub samples-listed : AllSamplesListed samples
+pub samples_listed : AllSamplesListed samples
 unfolding samples reading lining
-samples-listed = (refl, (refl, (refl, (refl, (refl, (refl, tt))))))
+samples_listed = (refl, (refl, (refl, (refl, (refl, (refl, tt))))))

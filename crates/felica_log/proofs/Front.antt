@@ -10,53 +10,53 @@ use lib.ListN.{length, get_or, take, drop}
 use borrow.Author.Tests.{le-leb, lt-leb}
 use Rattle.felica_text.specs.Text.{text}
 use Rattle.felica_totals.specs.declared.Totals.{Totals}
-use Rattle.felica_log.specs.Listing.{cutBy, frameThen, front, atFront, lineEnd, cutLine, recordsLeft}
-use Rattle.felica_log.specs.Step.{restLine}
+use Rattle.felica_log.specs.Listing.{cut_by, frame_then, front, at_front, line_end, cut_line, records_left}
+use Rattle.felica_log.specs.Step.{rest_line}
 
-pub front-whole : (size : ℕ) (s : List ℕ) → size ≤ length s → front (size ∷ s) ≡ frameThen (take size s) (drop size s)
+pub front_whole : (size : ℕ) (s : List ℕ) → size ≤ length s → front (size ∷ s) ≡ frame_then (take size s) (drop size s)
 unfolding front
-front-whole size s h = rw (le-leb size (length s) h)
+front_whole size s h = rw (le-leb size (length s) h)
 
-pub front-cut : (size : ℕ) (s : List ℕ) → length s < size → front (size ∷ s) ≡ cutBy (size - length s)
+pub front_cut : (size : ℕ) (s : List ℕ) → length s < size → front (size ∷ s) ≡ cut_by (size - length s)
 unfolding front
-front-cut size s h = rw (lt-leb size (length s) h)
+front_cut size s h = rw (lt-leb size (length s) h)
 
 -- where a byte is there, something stands at the front
-pub front-some : {A : Type 0} (size : ℕ) (s : List ℕ) (a b : A) → atFront (front (size ∷ s)) a (λ missing. b) (λ frame rest. b) ≡ b
+pub front_some : {A : Type 0} (size : ℕ) (s : List ℕ) (a b : A) → at_front (front (size ∷ s)) a (λ missing. b) (λ frame rest. b) ≡ b
 unfolding front
-front-some size s a b = go (leb size (length s))
+front_some size s a b = go (leb size (length s))
   where
-    go : (fits : Bool) → atFront (cond fits (frameThen (take size s) (drop size s)) (cutBy (size - length s))) a (λ missing. b) (λ frame rest. b) ≡ b
+    go : (fits : Bool) → at_front (cond fits (frame_then (take size s) (drop size s)) (cut_by (size - length s))) a (λ missing. b) (λ frame rest. b) ≡ b
     go true = refl
     go false = refl
 
 -- how many records may still be read
-pub none-left : (t : Totals) → 1000000 ≤ t.records → recordsLeft t ≡ 0
-none-left t h = omega arith
+pub none_left : (t : Totals) → 1000000 ≤ t.records → records_left t ≡ 0
+none_left t h = omega arith
 
-pub one-left : (t : Totals) → t.records < 1000000 → recordsLeft t ≡ suc (1000000 - (t.records + 1))
-one-left t h = omega arith
+pub one_left : (t : Totals) → t.records < 1000000 → records_left t ≡ suc (1000000 - (t.records + 1))
+one_left t h = omega arith
 
 -- the line in front of TOTAL, by the tests on what is left of the log
 module _ (t : Totals) where
-  pub nothing-left : (s : List ℕ) → length s ≡ 0 → restLine (recordsLeft t) s ≡ []
+  pub nothing_left : (s : List ℕ) → length s ≡ 0 → rest_line (records_left t) s ≡ []
   unfolding front
-  nothing-left [] e = go (recordsLeft t)
+  nothing_left [] e = go (records_left t)
     where
-      go : (n : ℕ) → restLine n [] ≡ []
+      go : (n : ℕ) → rest_line n [] ≡ []
       go zero = refl
       go (suc n) = refl
-  nothing-left (x ∷ s) e = absurd (omega arith)
+  nothing_left (x ∷ s) e = absurd (omega arith)
 
-  pub full-left : (s : List ℕ) → (length s ≡ 0 → ⊥) → 1000000 ≤ t.records → restLine (recordsLeft t) s ≡ text "FULL" ++ lineEnd
-  full-left [] some h = absurd (some refl)
-  full-left (x ∷ s) some h = rw (none-left t h)
+  pub full_left : (s : List ℕ) → (length s ≡ 0 → ⊥) → 1000000 ≤ t.records → rest_line (records_left t) s ≡ text "FULL" ++ line_end
+  full_left [] some h = absurd (some refl)
+  full_left (x ∷ s) some h = rw (none_left t h)
 
-  pub whole-left : (s : List ℕ) → (length s ≡ 0 → ⊥) → t.records < 1000000 → get_or s 0 0 ≤ length s - 1 → restLine (recordsLeft t) s ≡ []
-  whole-left [] some h whole = absurd (some refl)
-  whole-left (x ∷ s) some h whole = rw (one-left t h, front-whole x s (omega arith))
+  pub whole_left : (s : List ℕ) → (length s ≡ 0 → ⊥) → t.records < 1000000 → get_or s 0 0 ≤ length s - 1 → rest_line (records_left t) s ≡ []
+  whole_left [] some h whole = absurd (some refl)
+  whole_left (x ∷ s) some h whole = rw (one_left t h, front_whole x s (omega arith))
 
-  pub cut-left : (s : List ℕ) → (length s ≡ 0 → ⊥) → t.records < 1000000 → length s - 1 < get_or s 0 0
-      → restLine (recordsLeft t) s ≡ cutLine (get_or s 0 0 - (length s - 1))
-  cut-left [] some h cut = absurd (some refl)
-  cut-left (x ∷ s) some h cut = let n : suc (length s) - 1 ≡ length s = omega arith in rw (one-left t h, front-cut x s (omega arith), n)
+  pub cut_left : (s : List ℕ) → (length s ≡ 0 → ⊥) → t.records < 1000000 → length s - 1 < get_or s 0 0
+      → rest_line (records_left t) s ≡ cut_line (get_or s 0 0 - (length s - 1))
+  cut_left [] some h cut = absurd (some refl)
+  cut_left (x ∷ s) some h cut = let n : suc (length s) - 1 ≡ length s = omega arith in rw (one_left t h, front_cut x s (omega arith), n)

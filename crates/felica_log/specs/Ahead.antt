@@ -3,17 +3,17 @@
 -- Assumes nothing.
 use Rattle.std.specs.Prelude.{ℕ, cond, List, [], ◌∷◌, ltb, leb, length}
 use Rattle.felica_totals.specs.declared.Totals.{Totals}
-use Rattle.felica_totals.specs.Count.{hasRoom}
+use Rattle.felica_totals.specs.Count.{has_room}
 use Rattle.felica_log.specs.declared.Stop.TheVariants.{AtEnd, AtLimit, AtCut, NoRoom, TotalsFull}
 use Rattle.felica_log.specs.declared.ahead.Ahead.{Ahead}
 use Rattle.felica_log.specs.declared.ahead.Ahead.TheVariants.{Frame, Stop}
-use Rattle.felica_log.specs.Listing.{maxRecords}
-use Rattle.felica_log.specs.Step.{lineRoom, maxBlocks}
+use Rattle.felica_log.specs.Listing.{max_records}
+use Rattle.felica_log.specs.Step.{line_room, max_blocks}
 
-unfoldable pub aheadOf : List ℕ → ℕ → Totals → Ahead
-aheadOf [] room t = Stop AtEnd
-aheadOf (size ∷ s) room t =
-    cond (leb maxRecords t.records) (Stop AtLimit)
+unfoldable pub ahead_of : List ℕ → ℕ → Totals → Ahead
+ahead_of [] room t = Stop AtEnd
+ahead_of (size ∷ s) room t =
+    cond (leb max_records t.records) (Stop AtLimit)
     (cond (ltb (length s) size) (Stop AtCut)
-    (cond (ltb room lineRoom) (Stop NoRoom)
-    (cond (hasRoom t maxBlocks) (Frame size) (Stop TotalsFull))))
+    (cond (ltb room line_room) (Stop NoRoom)
+    (cond (has_room t max_blocks) (Frame size) (Stop TotalsFull))))

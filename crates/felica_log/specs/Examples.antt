@@ -4,20 +4,20 @@ use Rattle.std.specs.Prelude.{ℕ, ◌≡◌, List, [], ◌∷◌, ◌++◌}
 use Prim.Native.String.{String}
 use Rattle.felica_format.specs.Examples.{I8}
 use Rattle.felica_text.specs.Text.{text}
-use Rattle.felica_log.specs.Listing.{lineEnd, listing}
+use Rattle.felica_log.specs.Listing.{line_end, listing}
 
 -- a log and the lines of its listing
 pub record Sample : Type 0 where
   pub log : List ℕ
   pub lines : List String
 
-abbrev pub linesText : List String → List ℕ
-linesText [] = []
-linesText (line ∷ lines) = text line ++ (lineEnd ++ linesText lines)
+abbrev pub lines_text : List String → List ℕ
+lines_text [] = []
+lines_text (line ∷ lines) = text line ++ (line_end ++ lines_text lines)
 
 abbrev pub AllSamplesListed : List Sample → Type 0
 AllSamplesListed [] = Unit {0}
-AllSamplesListed (s ∷ rest) = (listing s.log ≡ linesText s.lines) × AllSamplesListed rest
+AllSamplesListed (s ∷ rest) = (listing s.log ≡ lines_text s.lines) × AllSamplesListed rest
 
 abbrev pub sample : List ℕ → List String → Sample
 sample log lines = record { log = log; lines = lines }

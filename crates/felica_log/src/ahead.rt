@@ -1,6 +1,6 @@
 // What stands at the front of the rest of a piece.
 ghost use Rattle.std.specs.Prelude.{◌≡◌};
-ghost use Rattle.felica_log.specs.Ahead.{aheadOf};
+ghost use Rattle.felica_log.specs.Ahead.{ahead_of};
 
 use crate::{LINE_ROOM, MAX_RECORDS, Stop};
 use felica_format::constants::MAX_BLOCK_COUNT;
@@ -15,7 +15,7 @@ pub(crate) enum Ahead {
 
 // `room` is how many bytes can still be put into the buffer.
 pub(crate) fn look_ahead(rest: &[u8], room: usize, totals: Totals) -> Ahead
-    ensures { result ≡ aheadOf rest.now room totals }
+    ensures { result ≡ ahead_of rest.now room totals }
 {
     if rest.len() == 0 {
         return Ahead::Stop(Stop::AtEnd);

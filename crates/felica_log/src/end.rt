@@ -1,8 +1,8 @@
 // The lines behind the last record.
 ghost use Rattle.std.specs.Prelude.{◌≡◌};
 ghost use Rattle.felica_put.specs.Put.{buffer, put};
-ghost use Rattle.felica_log.specs.Listing.{numberField, cutLine, totalLine, recordsLeft};
-ghost use Rattle.felica_log.specs.Step.{restLine, endText};
+ghost use Rattle.felica_log.specs.Listing.{number_field, cut_line, total_line, records_left};
+ghost use Rattle.felica_log.specs.Step.{rest_line, end_text};
 
 use crate::MAX_RECORDS;
 use felica_put::{put_byte, put_bytes};
@@ -11,14 +11,14 @@ use felica_totals::Totals;
 
 // CUT, FULL or nothing, and TOTAL, where `rest` is what is left of the log and `totals` are those of the records before it.
 pub fn put_end(out: &mut [u8], at: usize, rest: &[u8], totals: Totals) -> usize
-    ensures { buffer out.new result ≡ put (buffer out.old at) (endText totals rest.now) }
+    ensures { buffer out.new result ≡ put (buffer out.old at) (end_text totals rest.now) }
 {
     let next = put_rest_line(out, at, rest, totals);
     put_total_line(out, next, totals)
 }
 
 fn put_rest_line(out: &mut [u8], at: usize, rest: &[u8], totals: Totals) -> usize
-    ensures { buffer out.new result ≡ put (buffer out.old at) (restLine (recordsLeft totals) rest.now) }
+    ensures { buffer out.new result ≡ put (buffer out.old at) (rest_line (records_left totals) rest.now) }
 {
     if rest.len() == 0 {
         return at;
@@ -35,7 +35,7 @@ fn put_rest_line(out: &mut [u8], at: usize, rest: &[u8], totals: Totals) -> usiz
 }
 
 fn put_cut_line(out: &mut [u8], at: usize, missing: usize) -> usize
-    ensures { buffer out.new result ≡ put (buffer out.old at) (cutLine missing) }
+    ensures { buffer out.new result ≡ put (buffer out.old at) (cut_line missing) }
 {
     let next = put_bytes(out, at, b"CUT");
     let end = put_number(out, next, missing);
@@ -43,7 +43,7 @@ fn put_cut_line(out: &mut [u8], at: usize, missing: usize) -> usize
 }
 
 fn put_total_line(out: &mut [u8], at: usize, totals: Totals) -> usize
-    ensures { buffer out.new result ≡ put (buffer out.old at) (totalLine totals) }
+    ensures { buffer out.new result ≡ put (buffer out.old at) (total_line totals) }
 {
     let records_at = put_bytes(out, at, b"TOTAL");
     let accepted_at = put_number(out, records_at, totals.records);
@@ -55,7 +55,7 @@ fn put_total_line(out: &mut [u8], at: usize, totals: Totals) -> usize
 
 // A space and a number.
 fn put_number(out: &mut [u8], at: usize, number: usize) -> usize
-    ensures { buffer out.new result ≡ put (buffer out.old at) (numberField number) }
+    ensures { buffer out.new result ≡ put (buffer out.old at) (number_field number) }
 {
     let next = put_byte(out, at, b' ');
     put_decimal(out, next, number)

@@ -2,7 +2,7 @@
 #![tactic(auto)]
 
 ghost use Rattle.std.specs.Prelude.{◌≡◌};
-ghost use Rattle.felica_log.specs.Step.{lacksRoom};
+ghost use Rattle.felica_log.specs.Step.{lacks_room};
 
 mod ahead;
 pub mod end;
@@ -28,7 +28,7 @@ pub enum Stop {
 impl Stop {
     // Whether there is more to list, once what was put is out of the buffer.
     pub fn lacks_room(self) -> bool
-        ensures { result ≡ lacksRoom self }
+        ensures { result ≡ lacks_room self }
     {
         match self {
             Self::AtEnd => false,

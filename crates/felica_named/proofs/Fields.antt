@@ -6,28 +6,28 @@ use Prim.Native.Nat.{ℕ}
 use Rattle.felica_format.specs.Basic.{zeros}
 use Rattle.felica_command.specs.declared.fixed.Fixed.{Fixed}
 use Rattle.felica_command.specs.Handed.{handed}
-use Rattle.felica_calls.specs.Bytes.{bytesOf}
-use Rattle.felica_named.specs.Names.{numberOf}
-use Rattle.felica_named.specs.Values.{valueNamed, wordsIn, smallIn, bytesOver}
-use Rattle.felica_named.specs.Handed.{selectorFrom, numberFrom, indexFrom, optionFrom, choiceFrom}
-use Rattle.felica_named.specs.Handed.{byteHanded, wordHanded, challengeHanded, fixedWith, fixedNamed, frontWith, commandOver}
+use Rattle.felica_calls.specs.Bytes.{bytes_of}
+use Rattle.felica_named.specs.Names.{number_of}
+use Rattle.felica_named.specs.Values.{value_named, words_in, small_in, bytes_over}
+use Rattle.felica_named.specs.Handed.{selector_from, number_from, index_from, option_from, choice_from}
+use Rattle.felica_named.specs.Handed.{byte_handed, word_handed, challenge_handed, fixed_with, fixed_named, front_with, command_over}
 
-pub fixed-is : (code : ℕ) (s starts : List ℕ) (stray : ℕ) {idm challenge : List ℕ} {selector number index option choice : ℕ}
-    → idm ≡ bytesOver (zeros 8) (valueNamed s starts (numberOf " idm=")) → selector ≡ byteHanded s starts stray (selectorFrom code)
-    → number ≡ wordHanded s starts stray (numberFrom code) → index ≡ wordHanded s starts stray (indexFrom code)
-    → option ≡ byteHanded s starts stray (optionFrom code) → choice ≡ byteHanded s starts stray (choiceFrom code) → challenge ≡ challengeHanded code s starts
+pub fixed_is : (code : ℕ) (s starts : List ℕ) (stray : ℕ) {idm challenge : List ℕ} {selector number index option choice : ℕ}
+    → idm ≡ bytes_over (zeros 8) (value_named s starts (number_of " idm=")) → selector ≡ byte_handed s starts stray (selector_from code)
+    → number ≡ word_handed s starts stray (number_from code) → index ≡ word_handed s starts stray (index_from code)
+    → option ≡ byte_handed s starts stray (option_from code) → choice ≡ byte_handed s starts stray (choice_from code) → challenge ≡ challenge_handed code s starts
     → ◌≡◌ {A = Fixed}
     (record { idm = idm; selector = selector; number = number; index = index; option = option; choice = choice; challenge = challenge })
-    (fixedWith code s starts stray)
-fixed-is code s starts stray e₁ e₂ e₃ e₄ e₅ e₆ e₇ = rw (e₁, e₂, e₃, e₄, e₅, e₆, e₇)
+    (fixed_with code s starts stray)
+fixed_is code s starts stray e₁ e₂ e₃ e₄ e₅ e₆ e₇ = rw (e₁, e₂, e₃, e₄, e₅, e₆, e₇)
 
 -- the lists by what was written of each
-pub command-is : (code : ℕ) (s starts first second numbers places modes blockData issuePackage : List ℕ) {fixed : Fixed} {f g n p m d i : List ℕ}
-    → fixed ≡ fixedNamed code s starts → f ≡ frontWith first (wordsIn (valueNamed s starts (numberOf " first=")))
-    → g ≡ frontWith second (wordsIn (valueNamed s starts (numberOf " second="))) → n ≡ frontWith numbers (wordsIn (valueNamed s starts (numberOf " numbers=")))
-    → p ≡ frontWith places (smallIn (valueNamed s starts (numberOf " places="))) → m ≡ frontWith modes (smallIn (valueNamed s starts (numberOf " modes=")))
-    → d ≡ frontWith blockData (bytesOf (valueNamed s starts (numberOf " data=")))
-    → i ≡ frontWith issuePackage (bytesOf (valueNamed s starts (numberOf " package=")))
-    → handed code fixed f g n p m d i ≡ commandOver code s starts first second numbers places modes blockData issuePackage
-unfolding commandOver
-command-is code s starts first second numbers places modes blockData issuePackage e₁ e₂ e₃ e₄ e₅ e₆ e₇ e₈ = rw (e₁, e₂, e₃, e₄, e₅, e₆, e₇, e₈)
+pub command_given : (code : ℕ) (s starts first second numbers places modes block_data issue_package : List ℕ) {fixed : Fixed} {f g n p m d i : List ℕ}
+    → fixed ≡ fixed_named code s starts → f ≡ front_with first (words_in (value_named s starts (number_of " first=")))
+    → g ≡ front_with second (words_in (value_named s starts (number_of " second="))) → n ≡ front_with numbers (words_in (value_named s starts (number_of " numbers=")))
+    → p ≡ front_with places (small_in (value_named s starts (number_of " places="))) → m ≡ front_with modes (small_in (value_named s starts (number_of " modes=")))
+    → d ≡ front_with block_data (bytes_of (value_named s starts (number_of " data=")))
+    → i ≡ front_with issue_package (bytes_of (value_named s starts (number_of " package=")))
+    → handed code fixed f g n p m d i ≡ command_over code s starts first second numbers places modes block_data issue_package
+unfolding command_over
+command_given code s starts first second numbers places modes block_data issue_package e₁ e₂ e₃ e₄ e₅ e₆ e₇ e₈ = rw (e₁, e₂, e₃, e₄, e₅, e₆, e₇, e₈)

@@ -8,16 +8,16 @@ use Rattle.felica_text.specs.Text.{text}
 unfoldable pub names : List ℕ
 names = text " idm=8 first=W second=W numbers=W places=N modes=N data=B package=B system=2 request=1 slots=1 parent=2 index=2 node=2 property=2 type=1 operation=1 encryption=1 packet=1 challenge=C issue_id=8 issue_parameter=8"
 
-unfoldable pub beginsWith : List ℕ → List ℕ → Bool
-beginsWith [] s = true
-beginsWith (k ∷ ks) [] = false
-beginsWith (k ∷ ks) (d ∷ ds) = eqb d k and beginsWith ks ds
+unfoldable pub begins_with : List ℕ → List ℕ → Bool
+begins_with [] s = true
+begins_with (k ∷ ks) [] = false
+begins_with (k ∷ ks) (d ∷ ds) = eqb d k and begins_with ks ds
 
 -- where a key stands first; the length where it does not
-unfoldable pub placeIn : List ℕ → List ℕ → ℕ
-placeIn key [] = 0
-placeIn key (d ∷ ds) = cond (beginsWith key (d ∷ ds)) 0 (suc (placeIn key ds))
+unfoldable pub place_in : List ℕ → List ℕ → ℕ
+place_in key [] = 0
+place_in key (d ∷ ds) = cond (begins_with key (d ∷ ds)) 0 (suc (place_in key ds))
 
 -- the number of a name: its place in the table, where it stands with the space before it and the `=` behind it
-abbrev pub numberOf : String → ℕ
-numberOf name = placeIn (text name) names
+abbrev pub number_of : String → ℕ
+number_of name = place_in (text name) names

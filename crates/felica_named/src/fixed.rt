@@ -1,8 +1,8 @@
 // The fixed fields that the writer takes, from the fields named.
 ghost use Rattle.std.specs.Prelude.{◌≡◌};
 ghost use Rattle.felica_format.specs.Basic.{zeros};
-ghost use Rattle.felica_named.specs.Values.{valueNamed, bytesOver};
-ghost use Rattle.felica_named.specs.Handed.{byteHanded, wordHanded, challengeHanded, fixedNamed};
+ghost use Rattle.felica_named.specs.Values.{value_named, bytes_over};
+ghost use Rattle.felica_named.specs.Handed.{byte_handed, word_handed, challenge_handed, fixed_named};
 
 use crate::names::{IDM, NOWHERE};
 use crate::stray::{
@@ -16,7 +16,7 @@ use felica_cursor::cursor::word_of;
 
 // Where a field is named that the command lacks, a number that it lacks is 1, so that the writer refuses it.
 pub fn fixed_named(code: u8, text: &[u8], starts: &[usize]) -> Fixed
-    ensures { result ≡ fixedNamed code text.now starts.now }
+    ensures { result ≡ fixed_named code text.now starts.now }
 {
     let mark = stray(code, text, starts);
     let mut idm = [0u8; 8];
@@ -35,7 +35,7 @@ pub fn fixed_named(code: u8, text: &[u8], starts: &[usize]) -> Fixed
 }
 
 fn byte_handed(text: &[u8], starts: &[usize], mark: u8, name: usize) -> u8
-    ensures { result ≡ byteHanded text.now starts.now mark name }
+    ensures { result ≡ byte_handed text.now starts.now mark name }
 {
     if name == NOWHERE {
         return mark;
@@ -46,7 +46,7 @@ fn byte_handed(text: &[u8], starts: &[usize], mark: u8, name: usize) -> u8
 }
 
 fn word_handed(text: &[u8], starts: &[usize], mark: u8, name: usize) -> u16
-    ensures { result ≡ wordHanded text.now starts.now mark name }
+    ensures { result ≡ word_handed text.now starts.now mark name }
 {
     if name == NOWHERE {
         return mark as u16;
@@ -59,7 +59,7 @@ fn word_handed(text: &[u8], starts: &[usize], mark: u8, name: usize) -> u16
 // Of 80, the issue parameter stands behind the issue id.
 fn fill_challenge(code: u8, text: &[u8], starts: &[usize], challenge: &mut [u8])
     requires { challenge.old ≡ zeros 16 }
-    ensures { challenge.new ≡ challengeHanded code text.now starts.now }
+    ensures { challenge.new ≡ challenge_handed code text.now starts.now }
 {
     fill(text, starts, parameter_from(code), &mut challenge[8..]);
     fill(text, starts, challenge_from(code), challenge);
@@ -67,7 +67,7 @@ fn fill_challenge(code: u8, text: &[u8], starts: &[usize], challenge: &mut [u8])
 
 // The bytes of a field, put to the front.
 fn fill(text: &[u8], starts: &[usize], name: usize, bytes: &mut [u8])
-    ensures { bytes.new ≡ bytesOver bytes.old (valueNamed text.now starts.now name) }
+    ensures { bytes.new ≡ bytes_over bytes.old (value_named text.now starts.now name) }
 {
     decode(value_at(text, start_of(starts, name)), bytes);
 }

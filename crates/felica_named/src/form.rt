@@ -1,6 +1,6 @@
 // The forms that values have.
 ghost use Rattle.std.specs.Prelude.{◌≡◌};
-ghost use Rattle.felica_named.specs.Form.{longest, wellFormed, challengeForm, hasDigits, isBytes, isList, entries, entryWell};
+ghost use Rattle.felica_named.specs.Form.{longest, well_formed, challenge_form, has_digits, is_bytes, is_list, entries, entry_well};
 
 use felica_calls::bytes::all_digits;
 use felica_calls::field::is_byte;
@@ -23,7 +23,7 @@ pub(crate) fn longest_value(form: u8) -> usize
 
 // By the letter or digit of the form: so many bytes, a challenge, a list of words, a list of numbers of one or two digits, any bytes.
 pub(crate) fn well_formed(form: u8, value: &[u8]) -> bool
-    ensures { result ≡ wellFormed form value.now }
+    ensures { result ≡ well_formed form value.now }
 {
     match form {
         b'1' => has_digits(value, 2),
@@ -38,7 +38,7 @@ pub(crate) fn well_formed(form: u8, value: &[u8]) -> bool
 }
 
 fn has_digits(value: &[u8], count: usize) -> bool
-    ensures { result ≡ hasDigits count value.now }
+    ensures { result ≡ has_digits count value.now }
 {
     if value.len() != count {
         return false;
@@ -47,7 +47,7 @@ fn has_digits(value: &[u8], count: usize) -> bool
 }
 
 fn is_challenge(value: &[u8]) -> bool
-    ensures { result ≡ challengeForm value.now }
+    ensures { result ≡ challenge_form value.now }
 {
     if has_digits(value, 16) {
         return true;
@@ -56,7 +56,7 @@ fn is_challenge(value: &[u8]) -> bool
 }
 
 fn is_bytes(value: &[u8]) -> bool
-    ensures { result ≡ isBytes value.now }
+    ensures { result ≡ is_bytes value.now }
 {
     if is_byte(value, b'-') {
         return true;
@@ -72,7 +72,7 @@ fn is_bytes(value: &[u8]) -> bool
 
 // `-`, or entries of `least` to `most` digits, parted by commas.
 fn is_list(value: &[u8], least: usize, most: usize) -> bool
-    ensures { result ≡ isList least most value.now }
+    ensures { result ≡ is_list least most value.now }
 {
     if is_byte(value, b'-') {
         return true;
@@ -105,7 +105,7 @@ fn are_entries(value: &[u8], least: usize, most: usize) -> bool
 }
 
 fn is_entry(count: usize, least: usize, most: usize) -> bool
-    ensures { result ≡ entryWell least most count }
+    ensures { result ≡ entry_well least most count }
 {
     if count < least {
         return false;

@@ -1,8 +1,8 @@
 // Lists, data and package, written to lent buffers.
 ghost use Rattle.std.specs.Prelude.{◌≡◌, [], ◌∷◌};
 ghost use Rattle.felica_put.specs.Put.{buffer, put};
-ghost use Rattle.felica_calls.specs.Bytes.{bytesOf};
-ghost use Rattle.felica_named.specs.Values.{valueNamed, wordsIn, smallIn, numbersFrom};
+ghost use Rattle.felica_calls.specs.Bytes.{bytes_of};
+ghost use Rattle.felica_named.specs.Values.{value_named, words_in, small_in, numbers_from};
 
 use crate::values::{start_of, value_at};
 use felica_calls::bytes::{decode, value_of};
@@ -10,25 +10,25 @@ use felica_calls::field::is_byte;
 use felica_put::put_byte;
 
 pub fn words_named(text: &[u8], starts: &[usize], name: usize, words: &mut [u16]) -> usize
-    ensures { buffer words.new result ≡ put (buffer words.old 0) (wordsIn (valueNamed text.now starts.now name)) }
+    ensures { buffer words.new result ≡ put (buffer words.old 0) (words_in (value_named text.now starts.now name)) }
 {
     put_words(value_at(text, start_of(starts, name)), words)
 }
 
 pub fn small_named(text: &[u8], starts: &[usize], name: usize, numbers: &mut [u8]) -> usize
-    ensures { buffer numbers.new result ≡ put (buffer numbers.old 0) (smallIn (valueNamed text.now starts.now name)) }
+    ensures { buffer numbers.new result ≡ put (buffer numbers.old 0) (small_in (value_named text.now starts.now name)) }
 {
     put_small(value_at(text, start_of(starts, name)), numbers)
 }
 
 pub fn bytes_named(text: &[u8], starts: &[usize], name: usize, bytes: &mut [u8]) -> usize
-    ensures { buffer bytes.new result ≡ put (buffer bytes.old 0) (bytesOf (valueNamed text.now starts.now name)) }
+    ensures { buffer bytes.new result ≡ put (buffer bytes.old 0) (bytes_of (value_named text.now starts.now name)) }
 {
     decode(value_at(text, start_of(starts, name)), bytes)
 }
 
 fn put_words(value: &[u8], words: &mut [u16]) -> usize
-    ensures { buffer words.new result ≡ put (buffer words.old 0) (wordsIn value.now) }
+    ensures { buffer words.new result ≡ put (buffer words.old 0) (words_in value.now) }
 {
     if value.len() == 0 {
         return 0;
@@ -40,7 +40,7 @@ fn put_words(value: &[u8], words: &mut [u16]) -> usize
 }
 
 fn put_small(value: &[u8], numbers: &mut [u8]) -> usize
-    ensures { buffer numbers.new result ≡ put (buffer numbers.old 0) (smallIn value.now) }
+    ensures { buffer numbers.new result ≡ put (buffer numbers.old 0) (small_in value.now) }
 {
     if value.len() == 0 {
         return 0;
@@ -52,7 +52,7 @@ fn put_small(value: &[u8], numbers: &mut [u8]) -> usize
 }
 
 fn put_each_word(value: &[u8], words: &mut [u16]) -> usize
-    ensures { buffer words.new result ≡ put (buffer words.old 0) (numbersFrom 4096 0 value.now) }
+    ensures { buffer words.new result ≡ put (buffer words.old 0) (numbers_from 4096 0 value.now) }
 {
     let mut next = 0;
     let mut number: u16 = 0;
@@ -71,7 +71,7 @@ fn put_each_word(value: &[u8], words: &mut [u16]) -> usize
 }
 
 fn put_each_small(value: &[u8], numbers: &mut [u8]) -> usize
-    ensures { buffer numbers.new result ≡ put (buffer numbers.old 0) (numbersFrom 16 0 value.now) }
+    ensures { buffer numbers.new result ≡ put (buffer numbers.old 0) (numbers_from 16 0 value.now) }
 {
     let mut next = 0;
     let mut number: u8 = 0;

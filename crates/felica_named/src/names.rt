@@ -1,6 +1,6 @@
 // The names of fields. They stand in one text (`note_fields`), since there is no table of slices, and the number of a name is its place there.
 ghost use Rattle.std.specs.Prelude.{◌≡◌};
-ghost use Rattle.felica_named.specs.Names.{beginsWith, placeIn};
+ghost use Rattle.felica_named.specs.Names.{begins_with, place_in};
 
 // The length of that text.
 pub const NAMES: usize = 211;
@@ -57,7 +57,7 @@ pub const LONG_CHALLENGE: usize = 171;
 
 // Where `key` stands in the table first.
 pub(crate) fn place_in(table: &[u8], key: &[u8]) -> usize
-    ensures { result ≡ placeIn key.now table.now }
+    ensures { result ≡ place_in key.now table.now }
 {
     let mut i = 0;
     while i < table.len() {
@@ -70,7 +70,7 @@ pub(crate) fn place_in(table: &[u8], key: &[u8]) -> usize
 }
 
 fn begins_with(text: &[u8], key: &[u8]) -> bool
-    ensures { result ≡ beginsWith key.now text.now }
+    ensures { result ≡ begins_with key.now text.now }
 {
     let mut i = 0;
     while i < key.len() {

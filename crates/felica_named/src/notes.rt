@@ -1,6 +1,6 @@
 // A walk along the fields. Each is noted by where its value begins, at the number of its name, or what is wrong with it is told.
 ghost use Rattle.std.specs.Prelude.{◌≡◌, ◌+◌, ◌<◌, length};
-ghost use Rattle.felica_named.specs.Notes.{notes, fieldsNoted, noteFrom, note, noteValue, formOf, slotOf, fieldAt};
+ghost use Rattle.felica_named.specs.Notes.{notes, fields_noted, note_from, note, note_value, form_of, slot_of, field_at};
 
 use crate::form::{longest_value, well_formed};
 use crate::names::place_in;
@@ -15,7 +15,7 @@ pub enum Noted {
 
 // The fields of `text`. `starts` has an entry for each byte of the table of names: where the value begins in `text`, or 0 where the field is not named.
 pub fn note_fields(text: &[u8], starts: &mut [usize]) -> Noted
-    ensures { notes result starts.new ≡ fieldsNoted text.now starts.old }
+    ensures { notes result starts.new ≡ fields_noted text.now starts.old }
 {
     note_from(
         b" idm=8 first=W second=W numbers=W places=N modes=N data=B package=B system=2 request=1 slots=1 parent=2 index=2 node=2 property=2 type=1 operation=1 encryption=1 packet=1 challenge=C issue_id=8 issue_parameter=8",
@@ -25,7 +25,7 @@ pub fn note_fields(text: &[u8], starts: &mut [usize]) -> Noted
 }
 
 fn note_from(table: &[u8], text: &[u8], starts: &mut [usize]) -> Noted
-    ensures { notes result starts.new ≡ noteFrom (length text.now) table.now text.now 0 starts.old }
+    ensures { notes result starts.new ≡ note_from (length text.now) table.now text.now 0 starts.old }
 {
     let mut at = 0;
     while at < text.len() {
@@ -42,7 +42,7 @@ fn note_from(table: &[u8], text: &[u8], starts: &mut [usize]) -> Noted
 // A field with the space before it.
 fn field_at(text: &[u8], at: usize) -> &[u8]
     requires { at < length text.now }
-    ensures { result.now ≡ fieldAt text.now at }
+    ensures { result.now ≡ field_at text.now at }
 {
     let name = at + 1;
     let end = name + find(&text[name..], b' ');
@@ -71,7 +71,7 @@ fn note_field(table: &[u8], field: &[u8], at: usize, starts: &mut [usize]) -> No
 }
 
 fn form_of(table: &[u8], place: usize, behind: usize) -> u8
-    ensures { result ≡ formOf table.now place behind }
+    ensures { result ≡ form_of table.now place behind }
 {
     if table.len() <= place {
         return 0;
@@ -85,7 +85,7 @@ fn form_of(table: &[u8], place: usize, behind: usize) -> u8
 
 fn slot_of(form: u8, place: usize, value: &[u8]) -> usize
     requires { place < 18446744073709551615 }
-    ensures { result ≡ slotOf form place value.now }
+    ensures { result ≡ slot_of form place value.now }
 {
     if form == b'C' {
         if value.len() == 32 {
@@ -96,7 +96,7 @@ fn slot_of(form: u8, place: usize, value: &[u8]) -> usize
 }
 
 fn note_value(form: u8, slot: usize, value: &[u8], start: usize, starts: &mut [usize]) -> Noted
-    ensures { notes result starts.new ≡ noteValue form slot value.now start starts.old }
+    ensures { notes result starts.new ≡ note_value form slot value.now start starts.old }
 {
     if starts.len() <= slot {
         return Noted::Wrong(Fault::UnknownField);

@@ -1,7 +1,7 @@
 // Which fields the fixed fields of a command are read from, and whether a field is named that the command lacks.
 ghost use Rattle.std.specs.Prelude.{◌≡◌};
-ghost use Rattle.felica_named.specs.Handed.{selectorFrom, numberFrom, indexFrom, optionFrom, choiceFrom, challengeFrom, parameterFrom};
-ghost use Rattle.felica_named.specs.Handed.{takes as takesField, strays as straysField, strayOf};
+ghost use Rattle.felica_named.specs.Handed.{selector_from, number_from, index_from, option_from, choice_from, challenge_from, parameter_from};
+ghost use Rattle.felica_named.specs.Handed.{takes as takes_field, strays as strays_field, stray_of};
 
 use crate::names::{
     CHALLENGE, ENCRYPTION, INDEX, ISSUE_ID, ISSUE_PARAMETER, LONG_CHALLENGE, NODE, NOWHERE,
@@ -11,7 +11,7 @@ use crate::values::{all_zero, value_at};
 use felica_format::constants;
 
 pub(crate) fn selector_from(code: u8) -> usize
-    ensures { result ≡ selectorFrom code }
+    ensures { result ≡ selector_from code }
 {
     match code {
         constants::GET_NODE_PROPERTY_COMMAND_CODE => TYPE,
@@ -21,7 +21,7 @@ pub(crate) fn selector_from(code: u8) -> usize
 }
 
 pub(crate) fn number_from(code: u8) -> usize
-    ensures { result ≡ numberFrom code }
+    ensures { result ≡ number_from code }
 {
     match code {
         constants::POLLING_COMMAND_CODE => SYSTEM,
@@ -36,7 +36,7 @@ pub(crate) fn number_from(code: u8) -> usize
 }
 
 pub(crate) fn index_from(code: u8) -> usize
-    ensures { result ≡ indexFrom code }
+    ensures { result ≡ index_from code }
 {
     match code {
         constants::REQUEST_CODE_LIST_COMMAND_CODE => INDEX,
@@ -45,7 +45,7 @@ pub(crate) fn index_from(code: u8) -> usize
 }
 
 pub(crate) fn option_from(code: u8) -> usize
-    ensures { result ≡ optionFrom code }
+    ensures { result ≡ option_from code }
 {
     match code {
         constants::POLLING_COMMAND_CODE => REQUEST,
@@ -55,7 +55,7 @@ pub(crate) fn option_from(code: u8) -> usize
 }
 
 pub(crate) fn choice_from(code: u8) -> usize
-    ensures { result ≡ choiceFrom code }
+    ensures { result ≡ choice_from code }
 {
     match code {
         constants::POLLING_COMMAND_CODE => SLOTS,
@@ -65,7 +65,7 @@ pub(crate) fn choice_from(code: u8) -> usize
 }
 
 pub(crate) fn challenge_from(code: u8) -> usize
-    ensures { result ≡ challengeFrom code }
+    ensures { result ≡ challenge_from code }
 {
     match code {
         constants::AUTHENTICATION1_COMMAND_CODE => CHALLENGE,
@@ -78,7 +78,7 @@ pub(crate) fn challenge_from(code: u8) -> usize
 }
 
 pub(crate) fn parameter_from(code: u8) -> usize
-    ensures { result ≡ parameterFrom code }
+    ensures { result ≡ parameter_from code }
 {
     match code {
         constants::REGISTER_ISSUE_ID_COMMAND_CODE => ISSUE_PARAMETER,
@@ -87,7 +87,7 @@ pub(crate) fn parameter_from(code: u8) -> usize
 }
 
 fn takes(code: u8, name: usize) -> bool
-    ensures { result ≡ takesField code name }
+    ensures { result ≡ takes_field code name }
 {
     if name == selector_from(code) {
         return true;
@@ -111,7 +111,7 @@ fn takes(code: u8, name: usize) -> bool
 }
 
 fn strays(code: u8, name: usize, value: &[u8]) -> bool
-    ensures { result ≡ straysField code name value.now }
+    ensures { result ≡ strays_field code name value.now }
 {
     if all_zero(value) {
         return false;
@@ -121,7 +121,7 @@ fn strays(code: u8, name: usize, value: &[u8]) -> bool
 
 // 1 where a field that the command lacks has a value other than zero, else 0.
 pub(crate) fn stray(code: u8, text: &[u8], starts: &[usize]) -> u8
-    ensures { result ≡ strayOf code text.now starts.now }
+    ensures { result ≡ stray_of code text.now starts.now }
 {
     let mut name = SYSTEM;
     while name < starts.len() {

@@ -1,6 +1,6 @@
 // The values of noted fields.
 ghost use Rattle.std.specs.Prelude.{◌≡◌, get_or};
-ghost use Rattle.felica_named.specs.Values.{valueAt, allZero};
+ghost use Rattle.felica_named.specs.Values.{value_at, all_zero};
 
 use felica_calls::field::field_of;
 
@@ -16,7 +16,7 @@ pub(crate) fn start_of(starts: &[usize], name: usize) -> usize
 
 // The value that begins at `start`: none at 0.
 pub(crate) fn value_at(text: &[u8], start: usize) -> &[u8]
-    ensures { result.now ≡ valueAt text.now start }
+    ensures { result.now ≡ value_at text.now start }
 {
     if start == 0 {
         return &text[..0];
@@ -28,7 +28,7 @@ pub(crate) fn value_at(text: &[u8], start: usize) -> &[u8]
 }
 
 pub(crate) fn all_zero(value: &[u8]) -> bool
-    ensures { result ≡ allZero value.now }
+    ensures { result ≡ all_zero value.now }
 {
     let mut i = 0;
     while i < value.len() {

@@ -5,5 +5,5 @@ use Rattle.felica_command.specs.declared.command.FelicaStandardCommand.{FelicaSt
 use Rattle.felica_command.specs.declared.command.Answer.TheVariants.{Command as AnswerCommand}
 use Rattle.felica_command.specs.declared.command.Parsed.{Parsed}
 
-abbrev pub withoutIdm : FelicaStandardCommand → Parsed
-withoutIdm kind = record { answer = AnswerCommand kind; idm = zeros 8; challenge = zeros 16; long = 0 }
+abbrev pub without_idm : FelicaStandardCommand → Parsed
+without_idm kind = record { answer = AnswerCommand kind; idm = zeros 8; challenge = zeros 16; long = 0 }

@@ -1,7 +1,7 @@
 -- Plain codes that share a layout, and the codes that are not plain.
 -- Assumes nothing.
 use Rattle.std.specs.Prelude.{ℕ, ◌≡◌, ◌⊎◌}
-use Rattle.felica_format.specs.Layout.{classOf}
+use Rattle.felica_format.specs.Layout.{class_of}
 use Rattle.felica_format.specs.declared.classes.Class.TheVariants.{Plain}
 
 abbrev pub CodeListCode : ℕ → Type 0
@@ -17,4 +17,4 @@ abbrev pub ReservedCode : ℕ → Type 0
 ReservedCode code = (code ≡ 0x22) ⊎ ((code ≡ 0x38) ⊎ ((code ≡ 0x3C) ⊎ (code ≡ 0x3E)))
 
 abbrev pub NotPlain : ℕ → Type 0
-NotPlain code = classOf code ≡ Plain → ⊥
+NotPlain code = class_of code ≡ Plain → ⊥

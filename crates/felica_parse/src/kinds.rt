@@ -1,6 +1,6 @@
 // The command of each code where several share a layout.
 ghost use Rattle.std.specs.Prelude.{◌≡◌};
-ghost use Rattle.felica_command.specs.Meaning.{fieldsOf, fixed, listed};
+ghost use Rattle.felica_command.specs.Meaning.{fields_of, fixed, listed};
 ghost use Rattle.felica_parse.specs.Codes.{CodeListCode, IdmAloneCode, WordCode, ReservedCode};
 
 use felica_command::command::{FelicaStandardCommand, Part};
@@ -9,7 +9,7 @@ use felica_format::constants;
 
 pub(crate) fn code_list_kind(command_code: u8, codes: Part) -> FelicaStandardCommand
     requires { CodeListCode command_code }
-    ensures { fieldsOf result ≡ listed command_code 0 codes }
+    ensures { fields_of result ≡ listed command_code 0 codes }
 {
     match command_code {
         constants::REQUEST_SERVICE_COMMAND_CODE => FelicaStandardCommand::RequestService {
@@ -27,7 +27,7 @@ pub(crate) fn code_list_kind(command_code: u8, codes: Part) -> FelicaStandardCom
 
 pub(crate) fn idm_alone_kind(command_code: u8) -> FelicaStandardCommand
     requires { IdmAloneCode command_code }
-    ensures { fieldsOf result ≡ fixed command_code 0 0 0 0 }
+    ensures { fields_of result ≡ fixed command_code 0 0 0 0 }
 {
     match command_code {
         constants::REQUEST_RESPONSE_COMMAND_CODE => FelicaStandardCommand::RequestResponse,
@@ -38,7 +38,7 @@ pub(crate) fn idm_alone_kind(command_code: u8) -> FelicaStandardCommand
 
 pub(crate) fn word_kind(command_code: u8, number: u16) -> FelicaStandardCommand
     requires { WordCode command_code }
-    ensures { fieldsOf result ≡ fixed command_code number 0 0 0 }
+    ensures { fields_of result ≡ fixed command_code number 0 0 0 }
 {
     match command_code {
         constants::SEARCH_SERVICE_CODE_COMMAND_CODE => FelicaStandardCommand::SearchServiceCode {
@@ -52,7 +52,7 @@ pub(crate) fn word_kind(command_code: u8, number: u16) -> FelicaStandardCommand
 
 pub(crate) fn reserved_kind(command_code: u8) -> FelicaStandardCommand
     requires { ReservedCode command_code }
-    ensures { fieldsOf result ≡ fixed command_code 0 0 0 0 }
+    ensures { fields_of result ≡ fixed command_code 0 0 0 0 }
 {
     match command_code {
         constants::GET_CONTAINER_ISSUE_INFORMATION_COMMAND_CODE =>

@@ -2,10 +2,10 @@
 #![tactic(auto)]
 
 ghost use Rattle.std.specs.Prelude.{◌≡◌, List, ℕ, drop};
-ghost use Rattle.felica_format.specs.Layout.{classOf};
-ghost use Rattle.felica_format.specs.Read.{readPayload, readPlainAs};
+ghost use Rattle.felica_format.specs.Layout.{class_of};
+ghost use Rattle.felica_format.specs.Read.{read_payload, read_plain_as};
 ghost use Rattle.felica_command.specs.Meaning.{meaning, Canonical};
-ghost use Rattle.felica_command.specs.Places.{placesOf, readPlaces, Inside, Account};
+ghost use Rattle.felica_command.specs.Places.{places_of, read_places, Inside, Account};
 ghost use Rattle.felica_parse.specs.Codes.{NotPlain};
 
 mod kinds;
@@ -24,7 +24,7 @@ use plain::{
 
 // A payload: the code byte and the body of its command.
 pub fn parse_payload(payload: &[u8]) -> Parsed
-    ensures { (meaning payload.now result ≡ readPayload payload.now) × (placesOf result ≡ readPlaces 1 payload.now (readPayload payload.now)) × Canonical result × Inside payload.now (placesOf result) }
+    ensures { (meaning payload.now result ≡ read_payload payload.now) × (places_of result ≡ read_places 1 payload.now (read_payload payload.now)) × Canonical result × Inside payload.now (places_of result) }
 {
     if payload.len() == 0 {
         return Parsed::refused_without_code(error::EMPTY_PAYLOAD);
@@ -82,7 +82,7 @@ pub fn parse_payload(payload: &[u8]) -> Parsed
 // A code that is no plain one, in a plain payload.
 fn refuse_code(command_code: u8) -> Parsed
     requires { NotPlain command_code }
-    ensures { (payload : List ℕ) → Account payload 1 (readPlainAs (classOf command_code) command_code (drop 1 payload)) result }
+    ensures { (payload : List ℕ) → Account payload 1 (read_plain_as (class_of command_code) command_code (drop 1 payload)) result }
 {
     let class = class_of(command_code);
     match class {

@@ -1,7 +1,7 @@
 // The plain commands. A body begins behind the code byte, at 1.
 ghost use Rattle.felica_cursor.specs.Body.{BodyRead};
 ghost use Rattle.std.specs.Prelude.{◌≡◌};
-ghost use Rattle.felica_parse.specs.Bare.{withoutIdm};
+ghost use Rattle.felica_parse.specs.Bare.{without_idm};
 ghost use Rattle.felica_parse.specs.Codes.{CodeListCode, IdmAloneCode, WordCode, ReservedCode};
 
 use crate::kinds::{code_list_kind, idm_alone_kind, reserved_kind, word_kind};
@@ -32,7 +32,7 @@ const AUTHENTICATION1_V2_ROW: usize = 22;
 
 // The result of a command that has neither IDm nor challenge. Apart from its callers, or the compiler stores their fields through a choice of places.
 fn without_idm(kind: FelicaStandardCommand) -> Parsed
-    ensures { result ≡ withoutIdm kind }
+    ensures { result ≡ without_idm kind }
 {
     Parsed {
         answer: Answer::Command(kind),

@@ -12,100 +12,100 @@ use lib.ListN.{length, get_or, set, take, drop, length-set, length-append, lengt
 use lib.Seq.{sets, sets-eq, drop-cons, drop-set-lt, length-take-le, take_all, take-append_seam}
 use lib.Dec.{ltb}
 use borrow.Author.Tests.{lt-ltb, le-ltb, ltb-true}
-use Rattle.felica_put.specs.Put.{Buffer, buffer, putByte, put}
+use Rattle.felica_put.specs.Put.{Buffer, buffer, put_byte, put}
 
-pub put-append : (b : Buffer) (vs ws : List ℕ) → put b (vs ++ ws) ≡ put (put b vs) ws
+pub put_append : (b : Buffer) (vs ws : List ℕ) → put b (vs ++ ws) ≡ put (put b vs) ws
 unfolding put
-put-append b [] ws = refl
-put-append b (v ∷ vs) ws = put-append (putByte b v) vs ws
+put_append b [] ws = refl
+put_append b (v ∷ vs) ws = put_append (put_byte b v) vs ws
 
 -- one piece behind another
-pub put-then : (b : Buffer) (vs ws : List ℕ) {c d : Buffer} → c ≡ put b vs → d ≡ put c ws → d ≡ put b (vs ++ ws)
-put-then b vs ws first second = second ∙ ap (λ x. put x ws) first ∙ sym (put-append b vs ws)
+pub put_then : (b : Buffer) (vs ws : List ℕ) {c d : Buffer} → c ≡ put b vs → d ≡ put c ws → d ≡ put b (vs ++ ws)
+put_then b vs ws first second = second ∙ ap (λ x. put x ws) first ∙ sym (put_append b vs ws)
 
 -- the same piece in other words
-pub put-same : (b : Buffer) (vs ws : List ℕ) {c : Buffer} → c ≡ put b vs → vs ≡ ws → c ≡ put b ws
-put-same b vs ws e same = e ∙ ap (put b) same
+pub put_same : (b : Buffer) (vs ws : List ℕ) {c : Buffer} → c ≡ put b vs → vs ≡ ws → c ≡ put b ws
+put_same b vs ws e same = e ∙ ap (put b) same
 
 -- the first piece of what is to be put
-pub put-rest : (b : Buffer) (vs ws : List ℕ) {c all : Buffer} → put b (vs ++ ws) ≡ all → c ≡ put b vs → put c ws ≡ all
-put-rest b vs ws e first = ap (λ x. put x ws) first ∙ sym (put-append b vs ws) ∙ e
+pub put_rest : (b : Buffer) (vs ws : List ℕ) {c all : Buffer} → put b (vs ++ ws) ≡ all → c ≡ put b vs → put c ws ≡ all
+put_rest b vs ws e first = ap (λ x. put x ws) first ∙ sym (put_append b vs ws) ∙ e
 
-pub put-none : (b : Buffer) (vs : List ℕ) {all : Buffer} → vs ≡ [] → put b vs ≡ all → b ≡ all
+pub put_none : (b : Buffer) (vs : List ℕ) {all : Buffer} → vs ≡ [] → put b vs ≡ all → b ≡ all
 unfolding put
-put-none b vs n e = sym (ap (put b) n) ∙ e
+put_none b vs n e = sym (ap (put b) n) ∙ e
 
 -- one more entry of a list
-pub drop-next {ℓ} : {A : Type ℓ} (l : List A) (i : ℕ) (d : A) → i < length l → drop i l ≡ get_or l i d ∷ drop (i + 1) l
-drop-next l i d h = drop-cons l i d h ∙ ap (λ (k : ℕ). get_or l i d ∷ drop k l) (sym (add-one i))
+pub drop_next {ℓ} : {A : Type ℓ} (l : List A) (i : ℕ) (d : A) → i < length l → drop i l ≡ get_or l i d ∷ drop (i + 1) l
+drop_next l i d h = drop-cons l i d h ∙ ap (λ (k : ℕ). get_or l i d ∷ drop k l) (sym (add-one i))
 
 -- a list from a place on, as a slice is cut
-pub take-rest : (n : ℕ) (s : List ℕ) → take (length s - n) (drop n s) ≡ drop n s
-take-rest n s = take_all (length s - n) (drop n s) (omega (arith, length-drop n s))
+pub take_rest : (n : ℕ) (s : List ℕ) → take (length s - n) (drop n s) ≡ drop n s
+take_rest n s = take_all (length s - n) (drop n s) (omega (arith, length-drop n s))
 
 -- A turn of a loop that puts f of a list, entry by entry: g is what an entry puts.
 module _ {ℓ} {A : Type ℓ} (f : List A → List ℕ) (g : A → List ℕ) (cons : (x : A) (xs : List A) → f (x ∷ xs) ≡ g x ++ f xs) where
-  pub put-more : (b : Buffer) (s : List A) (i : ℕ) (d : A) {c all : Buffer} → i < length s → put b (f (drop i s)) ≡ all → c ≡ put b (g (get_or s i d))
+  pub put_more : (b : Buffer) (s : List A) (i : ℕ) (d : A) {c all : Buffer} → i < length s → put b (f (drop i s)) ≡ all → c ≡ put b (g (get_or s i d))
       → put c (f (drop (i + 1) s)) ≡ all
-  put-more b s i d h e turn =
-      put-rest b (g (get_or s i d)) (f (drop (i + 1) s))
-      (ap (put b) (sym (ap f (drop-next s i d h) ∙ cons (get_or s i d) (drop (i + 1) s))) ∙ e)
+  put_more b s i d h e turn =
+      put_rest b (g (get_or s i d)) (f (drop (i + 1) s))
+      (ap (put b) (sym (ap f (drop_next s i d h) ∙ cons (get_or s i d) (drop (i + 1) s))) ∙ e)
       turn
 
 -- nothing is left of it
-pub put-done {ℓ} : {A : Type ℓ} (f : List A → List ℕ) (b : Buffer) (s : List A) (i : ℕ) {all : Buffer} → f [] ≡ [] → length s ≤ i → put b (f (drop i s)) ≡ all
+pub put_done {ℓ} : {A : Type ℓ} (f : List A → List ℕ) (b : Buffer) (s : List A) (i : ℕ) {all : Buffer} → f [] ≡ [] → length s ≤ i → put b (f (drop i s)) ≡ all
     → b ≡ all
-put-done f b s i n h e = put-none b (f (drop i s)) (ap f (drop_of_length-le s h) ∙ n) e
+put_done f b s i n h e = put_none b (f (drop i s)) (ap f (drop_of_length-le s h) ∙ n) e
 
 -- one byte where there is room, and bytes where there is none
-pub put-one : (l : List ℕ) (at i v : ℕ) → at + i < length l → buffer (set l (at + i) v) (at + (i + 1)) ≡ put (buffer l (at + i)) (v ∷ [])
+pub put_one : (l : List ℕ) (at i v : ℕ) → at + i < length l → buffer (set l (at + i) v) (at + (i + 1)) ≡ put (buffer l (at + i)) (v ∷ [])
 unfolding put
-put-one l at i v room = let n : at + (i + 1) ≡ at + i + 1 = omega arith in rw (lt-ltb _ _ room, n) refl
+put_one l at i v room = let n : at + (i + 1) ≡ at + i + 1 = omega arith in rw (lt-ltb _ _ room, n) refl
 
-put-full : (vs l : List ℕ) (at : ℕ) → length l ≤ at → put (buffer l at) vs ≡ buffer l at
+put_full : (vs l : List ℕ) (at : ℕ) → length l ≤ at → put (buffer l at) vs ≡ buffer l at
 unfolding put
-put-full [] l at full = refl
-put-full (v ∷ vs) l at full = rw (le-ltb _ _ full) (put-full vs l at full)
+put_full [] l at full = refl
+put_full (v ∷ vs) l at full = rw (le-ltb _ _ full) (put_full vs l at full)
 
 -- all is put where nothing is left of the list or of the room
-put-over : (rest l : List ℕ) (at : ℕ) {all : Buffer} → (0 < length rest → length l ≤ at) → put (buffer l at) rest ≡ all → buffer l at ≡ all
+put_over : (rest l : List ℕ) (at : ℕ) {all : Buffer} → (0 < length rest → length l ≤ at) → put (buffer l at) rest ≡ all → buffer l at ≡ all
 unfolding put
-put-over [] l at full e = e
-put-over (v ∷ vs) l at full e = sym (put-full (v ∷ vs) l at (full (omega arith))) ∙ e
+put_over [] l at full e = e
+put_over (v ∷ vs) l at full e = sym (put_full (v ∷ vs) l at (full (omega arith))) ∙ e
 
 -- a loop that puts a list from a place on: its start and its end
-pub put-start : (s l : List ℕ) (at : ℕ) → put (buffer l (at + 0)) (drop 0 s) ≡ put (buffer l at) s
-put-start s l at = let n : at + 0 ≡ at = omega arith in rw n refl
+pub put_start : (s l : List ℕ) (at : ℕ) → put (buffer l (at + 0)) (drop 0 s) ≡ put (buffer l at) s
+put_start s l at = let n : at + 0 ≡ at = omega arith in rw n refl
 
-pub put-last : (s l before : List ℕ) (at i count : ℕ) {all : Buffer} → i ≡ count → length l ≡ length before
+pub put_last : (s l before : List ℕ) (at i count : ℕ) {all : Buffer} → i ≡ count → length l ≡ length before
     → (count < length s → length before ≤ at + count) → put (buffer l (at + i)) (drop i s) ≡ all → buffer l (at + count) ≡ all
-put-last s l before at i count is same full e =
-    put-over (drop count s) l (at + count) (λ left. let more : count < length s = omega (arith, length-drop count s, left) in omega (arith, full more, same))
+put_last s l before at i count is same full e =
+    put_over (drop count s) l (at + count) (λ left. let more : count < length s = omega (arith, length-drop count s, left) in omega (arith, full more, same))
     (ap (λ (k : ℕ). put (buffer l (at + k)) (drop k s)) (sym is) ∙ e)
 
 -- Where there is room, the text stands in the buffer, and what lies before and behind it keeps its value.
-put-sets : (vs l : List ℕ) (at : ℕ) → at + length vs ≤ length l → put (buffer l at) vs ≡ buffer (sets l at vs) (at + length vs)
+put_sets : (vs l : List ℕ) (at : ℕ) → at + length vs ≤ length l → put (buffer l at) vs ≡ buffer (sets l at vs) (at + length vs)
 unfolding put
-put-sets [] l at h = let n : at + 0 ≡ at = omega arith in rw n
-put-sets (v ∷ vs) l at h =
+put_sets [] l at h = let n : at + 0 ≡ at = omega arith in rw n
+put_sets (v ∷ vs) l at h =
     let room : at < length l = omega arith in
     let n : at + suc (length vs) ≡ suc at + length vs = omega arith in
-    rw (lt-ltb _ _ room, add-one, n) (put-sets vs (set l at v) (suc at) (omega (arith, length-set l at v)))
+    rw (lt-ltb _ _ room, add-one, n) (put_sets vs (set l at v) (suc at) (omega (arith, length-set l at v)))
 
-pub put-room : (vs l : List ℕ) (at : ℕ) → at + length vs ≤ length l
+pub put_room : (vs l : List ℕ) (at : ℕ) → at + length vs ≤ length l
     → put (buffer l at) vs ≡ buffer (take at l ++ vs ++ drop (at + length vs) l) (at + length vs)
-put-room vs l at h = put-sets vs l at h ∙ ap (λ m. buffer m (at + length vs)) (sets-eq vs l at h)
+put_room vs l at h = put_sets vs l at h ∙ ap (λ m. buffer m (at + length vs)) (sets-eq vs l at h)
 
 -- the same from the start
-pub put-front : (vs l : List ℕ) → length vs ≤ length l → put (buffer l 0) vs ≡ buffer (vs ++ drop (length vs) l) (length vs)
-put-front vs l h = put-room vs l 0 (omega arith) ∙ ap (λ n. buffer (vs ++ drop n l) n) (zero-add (length vs))
+pub put_front : (vs l : List ℕ) → length vs ≤ length l → put (buffer l 0) vs ≡ buffer (vs ++ drop (length vs) l) (length vs)
+put_front vs l h = put_room vs l 0 (omega arith) ∙ ap (λ n. buffer (vs ++ drop n l) n) (zero-add (length vs))
 
 -- what stands in front of the next place then
-pub put-taken : (vs l : List ℕ) (at : ℕ) → at + length vs ≤ length l → take (put (buffer l at) vs).next (put (buffer l at) vs).bytes ≡ take at l ++ vs
-put-taken vs l at h =
+pub put_taken : (vs l : List ℕ) (at : ℕ) → at + length vs ≤ length l → take (put (buffer l at) vs).next (put (buffer l at) vs).bytes ≡ take at l ++ vs
+put_taken vs l at h =
     let front : length (take at l ++ vs) ≡ at + length vs =
     length-append (take at l) vs ∙ ap (λ (n : ℕ). n + length vs) (length-take-le at l (omega arith)) in
-    ap (λ (b : Buffer). take b.next b.bytes) (put-room vs l at h)
+    ap (λ (b : Buffer). take b.next b.bytes) (put_room vs l at h)
     ∙ ap (λ (n : ℕ). take n (take at l ++ vs ++ drop (at + length vs) l)) (sym front)
     ∙ take-append_seam (take at l ++ vs) (drop (at + length vs) l)
 
@@ -117,8 +117,8 @@ pub record Kept (b c : Buffer) : Type 0 where
   pub within : b.next ≤ length b.bytes → c.next ≤ length c.bytes
   pub behind : (n : ℕ) → c.next ≤ n → drop n c.bytes ≡ drop n b.bytes
 
-kept-byte : (b : Buffer) (v : ℕ) (room : Bool) → ltb b.next (length b.bytes) ≡ room → Kept b (putByte b v)
-kept-byte b v true e =
+kept_byte : (b : Buffer) (v : ℕ) (room : Bool) → ltb b.next (length b.bytes) ≡ room → Kept b (put_byte b v)
+kept_byte b v true e =
     let h = ltb-true b.next (length b.bytes) e in
     rw e (record {
       long = length-set b.bytes b.next v;
@@ -126,14 +126,14 @@ kept-byte b v true e =
       within = λ k. omega (arith, length-set b.bytes b.next v);
       behind = λ n k. drop-set-lt n b.bytes b.next v (omega arith);
     })
-kept-byte b v false e = rw e (record { long = refl; onward = omega arith; within = λ k. k; behind = λ n k. refl })
+kept_byte b v false e = rw e (record { long = refl; onward = omega arith; within = λ k. k; behind = λ n k. refl })
 
 pub kept : (b : Buffer) (vs : List ℕ) → Kept b (put b vs)
 unfolding put
 kept b [] = record { long = refl; onward = omega arith; within = λ k. k; behind = λ n k. refl }
 kept b (v ∷ vs) =
-    let first = kept-byte b v (ltb b.next (length b.bytes)) refl in
-    let rest = kept (putByte b v) vs in
+    let first = kept_byte b v (ltb b.next (length b.bytes)) refl in
+    let rest = kept (put_byte b v) vs in
     record {
       long = rest.long ∙ first.long;
       onward = omega (arith, rest.onward, first.onward);
@@ -141,5 +141,5 @@ kept b (v ∷ vs) =
       behind = λ n k. rest.behind n k ∙ first.behind n (omega (arith, rest.onward));
     }
 
-pub put-within : (l : List ℕ) (at : ℕ) (vs : List ℕ) {m : List ℕ} {n : ℕ} → buffer m n ≡ put (buffer l at) vs → at ≤ length l → n ≤ length m
-put-within l at vs e h = rw (ap (λ b. b.bytes) e, ap (λ b. b.next) e) ((kept (buffer l at) vs).within h)
+pub put_within : (l : List ℕ) (at : ℕ) (vs : List ℕ) {m : List ℕ} {n : ℕ} → buffer m n ≡ put (buffer l at) vs → at ≤ length l → n ≤ length m
+put_within l at vs e h = rw (ap (λ b. b.bytes) e, ap (λ b. b.next) e) ((kept (buffer l at) vs).within h)

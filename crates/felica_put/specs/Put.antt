@@ -10,10 +10,10 @@ pub record Buffer : Type 0 where
 abbrev pub buffer : List ℕ → ℕ → Buffer
 buffer bytes next = record { bytes = bytes; next = next }
 
-abbrev pub putByte : Buffer → ℕ → Buffer
-putByte b v = cond (ltb b.next (length b.bytes)) (buffer (set b.bytes b.next v) (b.next + 1)) b
+abbrev pub put_byte : Buffer → ℕ → Buffer
+put_byte b v = cond (ltb b.next (length b.bytes)) (buffer (set b.bytes b.next v) (b.next + 1)) b
 
 -- the buffer with a list put into it
 unfoldable pub put : Buffer → List ℕ → Buffer
 put b [] = b
-put b (v ∷ vs) = put (putByte b v) vs
+put b (v ∷ vs) = put (put_byte b v) vs

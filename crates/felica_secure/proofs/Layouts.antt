@@ -4,26 +4,26 @@ use Prim.Native.Nat.{ℕ}
 use mathlib.Core.Path.{◌≡◌, refl}
 use mathlib.Core.Bool.{true, false}
 use mathlib.Core.Logic.{⊎_elim}
-use Rattle.felica_format.specs.Layout.{noSelector, noCodes, bytes, word, bare, nothing, ignoredBytes, aPackage, layout, plainRows, secureRows, has}
-use Rattle.felica_format.specs.Layout.{layoutIn, layoutOf}
+use Rattle.felica_format.specs.Layout.{no_selector, no_codes, bytes, word, bare, nothing, ignored_bytes, a_package, layout, plain_rows, secure_rows, has}
+use Rattle.felica_format.specs.Layout.{layout_in, layout_of}
 use Rattle.felica_secure.specs.Codes.{ReadCode, WriteCode, RegisterCode}
 
-pub read-layout : (code : ℕ) → ReadCode code → layoutOf code ≡ layout false noSelector noCodes noCodes true false bare ignoredBytes
-unfolding layoutOf layoutIn has plainRows secureRows
-read-layout code = (⊎_elim (λ e. rw e) (λ e. rw e))
+pub read_layout : (code : ℕ) → ReadCode code → layout_of code ≡ layout false no_selector no_codes no_codes true false bare ignored_bytes
+unfolding layout_of layout_in has plain_rows secure_rows
+read_layout code = (⊎_elim (λ e. rw e) (λ e. rw e))
 
-pub write-layout : (code : ℕ) → WriteCode code → layoutOf code ≡ layout false noSelector noCodes noCodes true true bare ignoredBytes
-unfolding layoutOf layoutIn has plainRows secureRows
-write-layout code = (⊎_elim (λ e. rw e) (λ e. rw e))
+pub write_layout : (code : ℕ) → WriteCode code → layout_of code ≡ layout false no_selector no_codes no_codes true true bare ignored_bytes
+unfolding layout_of layout_in has plain_rows secure_rows
+write_layout code = (⊎_elim (λ e. rw e) (λ e. rw e))
 
-pub layout-80 : layoutOf 0x80 ≡ layout false noSelector noCodes noCodes false false (bytes 16) aPackage
-unfolding layoutOf layoutIn has plainRows secureRows
-layout-80 = refl
+pub layout_80 : layout_of 0x80 ≡ layout false no_selector no_codes no_codes false false (bytes 16) a_package
+unfolding layout_of layout_in has plain_rows secure_rows
+layout_80 = refl
 
-pub register-layout : (code : ℕ) → RegisterCode code → layoutOf code ≡ layout false noSelector noCodes noCodes false false word aPackage
-unfolding layoutOf layoutIn has plainRows secureRows
-register-layout code = (⊎_elim (λ e. rw e) (λ e. rw e))
+pub register_layout : (code : ℕ) → RegisterCode code → layout_of code ≡ layout false no_selector no_codes no_codes false false word a_package
+unfolding layout_of layout_in has plain_rows secure_rows
+register_layout code = (⊎_elim (λ e. rw e) (λ e. rw e))
 
-pub layout-8E : layoutOf 0x8E ≡ layout false noSelector noCodes noCodes false false bare nothing
-unfolding layoutOf layoutIn has plainRows secureRows
-layout-8E = refl
+pub layout_8e : layout_of 0x8E ≡ layout false no_selector no_codes no_codes false false bare nothing
+unfolding layout_of layout_in has plain_rows secure_rows
+layout_8e = refl

@@ -1,6 +1,6 @@
 // The command of each code where two share a layout.
 ghost use Rattle.std.specs.Prelude.{◌≡◌};
-ghost use Rattle.felica_command.specs.Meaning.{noPart, fieldsOf, blocks, packed};
+ghost use Rattle.felica_command.specs.Meaning.{no_part, fields_of, blocks, packed};
 ghost use Rattle.felica_secure.specs.Codes.{ReadCode, WriteCode, RegisterCode};
 
 use felica_command::command::{FelicaStandardCommand, Part};
@@ -9,7 +9,7 @@ use felica_format::constants;
 
 pub(crate) fn read_kind(command_code: u8, block_list: Part) -> FelicaStandardCommand
     requires { ReadCode command_code }
-    ensures { fieldsOf result ≡ blocks command_code noPart block_list noPart }
+    ensures { fields_of result ≡ blocks command_code no_part block_list no_part }
 {
     match command_code {
         constants::READ_COMMAND_CODE => FelicaStandardCommand::Read {
@@ -23,7 +23,7 @@ pub(crate) fn read_kind(command_code: u8, block_list: Part) -> FelicaStandardCom
 
 pub(crate) fn write_kind(command_code: u8, block_list: Part, bytes: Part) -> FelicaStandardCommand
     requires { WriteCode command_code }
-    ensures { fieldsOf result ≡ blocks command_code noPart block_list bytes }
+    ensures { fields_of result ≡ blocks command_code no_part block_list bytes }
 {
     match command_code {
         constants::WRITE_COMMAND_CODE => FelicaStandardCommand::Write {
@@ -39,7 +39,7 @@ pub(crate) fn write_kind(command_code: u8, block_list: Part, bytes: Part) -> Fel
 
 pub(crate) fn register_kind(command_code: u8, number: u16, tail: Part) -> FelicaStandardCommand
     requires { RegisterCode command_code }
-    ensures { fieldsOf result ≡ packed command_code number tail }
+    ensures { fields_of result ≡ packed command_code number tail }
 {
     match command_code {
         constants::REGISTER_AREA_COMMAND_CODE => FelicaStandardCommand::RegisterArea {

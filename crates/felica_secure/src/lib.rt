@@ -2,9 +2,9 @@
 #![tactic(auto)]
 
 ghost use Rattle.std.specs.Prelude.{◌≡◌};
-ghost use Rattle.felica_format.specs.Read.{readSecure};
+ghost use Rattle.felica_format.specs.Read.{read_secure};
 ghost use Rattle.felica_command.specs.Meaning.{meaning, Canonical};
-ghost use Rattle.felica_command.specs.Places.{placesOf, readPlaces, Inside};
+ghost use Rattle.felica_command.specs.Places.{places_of, read_places, Inside};
 
 mod bodies;
 mod kinds;
@@ -17,7 +17,7 @@ use felica_format::{constants, error};
 
 // A plain code is unknown here.
 pub fn parse_secure_payload(command_code: u8, payload: &[u8]) -> Parsed
-    ensures { (meaning payload.now result ≡ readSecure command_code payload.now) × (placesOf result ≡ readPlaces 0 payload.now (readSecure command_code payload.now)) × Canonical result × Inside payload.now (placesOf result) }
+    ensures { (meaning payload.now result ≡ read_secure command_code payload.now) × (places_of result ≡ read_places 0 payload.now (read_secure command_code payload.now)) × Canonical result × Inside payload.now (places_of result) }
 {
     match command_code {
         constants::READ_COMMAND_CODE | constants::READ_V2_COMMAND_CODE => parse_read(

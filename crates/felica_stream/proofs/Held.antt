@@ -37,20 +37,20 @@ read_takes None new (Err e) buf h = tt
 read_takes (Some xs) None (Err e) buf h = h
 read_takes (Some xs) (Some ys) (Err e) buf h = sym h
 
-pub read-behind : {E : Type 0} (old new : Option (List ℕ)) (r : Result ℕ E) (at n : ℕ) (s buf rest : List ℕ) → at ≤ length s → n ≡ result_unwrap_or r 0 → ReadsAtMost r buf → ReadConsumes old new r buf
+pub read_behind : {E : Type 0} (old new : Option (List ℕ)) (r : Result ℕ E) (at n : ℕ) (s buf rest : List ℕ) → at ≤ length s → n ≡ result_unwrap_or r 0 → ReadsAtMost r buf → ReadConsumes old new r buf
     → Consumes old new (drop at (take (at + n) (take at s ++ (buf ++ rest))))
-read-behind old new r at n s buf rest h is bound takes =
+read_behind old new r at n s buf rest h is bound takes =
     let k : n ≤ length buf = rw is (read_bound r buf bound) in
     rw (behind_front at n s buf rest h k, is) (read_takes old new r buf takes)
 
 -- nothing is moved yet
-pub move-none : (s : List ℕ) (from : ℕ) → s ≡ paste s 0 (drop from s) 0
-move-none s from = paste-zero s 0 (drop from s)
+pub move_none : (s : List ℕ) (from : ℕ) → s ≡ paste s 0 (drop from s) 0
+move_none s from = paste-zero s 0 (drop from s)
 
 -- One more byte is moved. It stands behind the place that it goes to, and so has not been written over.
-pub move-next : (s : List ℕ) (from to i : ℕ) {l : List ℕ} → i ≡ from + to → i < length s → l ≡ paste s 0 (drop from s) to
+pub move_next : (s : List ℕ) (from to i : ℕ) {l : List ℕ} → i ≡ from + to → i < length s → l ≡ paste s 0 (drop from s) to
     → set l to (get_or l i 0) ≡ paste s 0 (drop from s) (to + 1)
-move-next s from to i {l} is inside e =
+move_next s from to i {l} is inside e =
     let more : to < length (drop from s) = rw (length-drop from s) (omega arith) in
     let here : drop (0 + to) l ≡ drop (0 + to) s = ap (drop (0 + to)) e ∙ drop-paste s 0 (drop from s) to (omega arith) (omega arith) in
     let place : 0 + to + from ≡ i = omega arith in
@@ -59,13 +59,13 @@ move-next s from to i {l} is inside e =
     ∙ ap (λ (k : ℕ). get_or s k 0) (rw (zero-add to) (omega arith)) ∙ sym (get_or-drop from s to 0) in
     rw (read, e) (ap (λ (k : ℕ). set (paste s 0 (drop from s) to) k (get_or (drop from s) to 0)) (sym (zero-add to)) ∙ paste-suc s 0 (drop from s) to 0 (omega arith) more ∙ ap (paste s 0 (drop from s)) (sym (add-one to)))
 
-pub move-done : (s : List ℕ) (from to end : ℕ) {l : List ℕ} → end ≤ length s → to ≡ end - from → l ≡ paste s 0 (drop from s) to → l ≡ moved s from end
+pub move_done : (s : List ℕ) (from to end : ℕ) {l : List ℕ} → end ≤ length s → to ≡ end - from → l ≡ paste s 0 (drop from s) to → l ≡ moved s from end
 unfolding moved
-move-done s from to end h n e = rw (le-leb end (length s) h) (e ∙ ap (paste s 0 (drop from s)) n)
+move_done s from to end h n e = rw (le-leb end (length s) h) (e ∙ ap (paste s 0 (drop from s)) n)
 
-pub move-short : (s : List ℕ) (from end : ℕ) → length s < end → s ≡ moved s from end
+pub move_short : (s : List ℕ) (from end : ℕ) → length s < end → s ≡ moved s from end
 unfolding moved
-move-short s from end h = rw (lt-leb end (length s) h)
+move_short s from end h = rw (lt-leb end (length s) h)
 
 -- where output is written or not, there is room behind what waits
 module _ (w next room n : ℕ) (e : w ≡ cond (leb (next + room) n) next 0) where
@@ -77,8 +77,8 @@ module _ (w next room n : ℕ) (e : w ≡ cond (leb (next + room) n) next 0) whe
   waits true q = let k : next + room ≤ n = leb-true _ _ q in let is : w ≡ next = e ∙ rw q in omega arith
   waits false q = let is : w ≡ 0 = e ∙ rw q in omega arith
 
-  pub waits-inside : w ≤ n
-  waits-inside = waits (leb (next + room) n) refl
+  pub waits_inside : w ≤ n
+  waits_inside = waits (leb (next + room) n) refl
 
-  pub room-made : room ≤ n → w + room ≤ n
-  room-made h = made (leb (next + room) n) refl h
+  pub room_made : room ≤ n → w + room ≤ n
+  room_made h = made (leb (next + room) n) refl h

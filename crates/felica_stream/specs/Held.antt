@@ -8,5 +8,5 @@ unfoldable pub moved : List ℕ → ℕ → ℕ → List ℕ
 moved s from end = cond (leb end (length s)) (paste s 0 (drop from s) (end - from)) s
 
 -- how many bytes wait in an output of some length where room is needed behind them: as many as before, or none, since they are written
-abbrev pub stillWaiting : ℕ → ℕ → ℕ → ℕ
-stillWaiting length waiting room = cond (leb (waiting + room) length) waiting 0
+abbrev pub still_waiting : ℕ → ℕ → ℕ → ℕ
+still_waiting length waiting room = cond (leb (waiting + room) length) waiting 0

@@ -4,7 +4,7 @@
 
 ghost use Rattle.std.specs.Prelude.{◌≡◌, true, false, ◌+◌, ◌-◌, ◌≤◌, ◌<◌, length, take, drop};
 ghost use Rattle.std.specs.Io.KnownBytes.{Consumes, Appends, IsAtEnd};
-ghost use Rattle.felica_stream.specs.Held.{moved, stillWaiting};
+ghost use Rattle.felica_stream.specs.Held.{moved, still_waiting};
 
 use std::io::{Read, Write};
 
@@ -64,7 +64,7 @@ pub fn keep_rest(input: &mut [u8], from: usize, end: usize)
 // written.
 pub fn make_room<W: Write>(writer: &mut W, out: &[u8], waiting: usize, room: usize) -> Output
     ensures bytes { result.failed ≡ false → Appends (W.contents writer.old) (W.contents writer.new) (take (waiting - result.waiting) out.now) }
-    ensures counts { (result.waiting ≡ stillWaiting (length out.now) waiting room) × (waiting + room ≤ length out.now → result.failed ≡ false) × (length out.now < waiting → result.failed ≡ true) }
+    ensures counts { (result.waiting ≡ still_waiting (length out.now) waiting room) × (waiting + room ≤ length out.now → result.failed ≡ false) × (length out.now < waiting → result.failed ≡ true) }
 {
     if out.len() < waiting {
         return Output {

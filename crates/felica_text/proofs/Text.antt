@@ -9,60 +9,60 @@ use native.Mathlib.Omega.{arith}
 use lib.Dec.{ltb}
 use lib.ListN.{length, get_or, drop, length-append}
 use borrow.Author.Tests.{lt-ltb, le-ltb, ltb-true, ltb-false}
-use Rattle.felica_text.specs.Text.{text, digitsText, bytesText, behindCommas, parted, decimalDigits, decimalText}
+use Rattle.felica_text.specs.Text.{text, digits_text, bytes_text, behind_commas, parted, decimal_digits, decimal_text}
 
-pub bytes-none : (s : List ℕ) → length s ≡ 0 → bytesText s ≡ text "-"
-unfolding bytesText
-bytes-none [] h = refl
-bytes-none (b ∷ s) h = absurd (omega arith)
+pub bytes_none : (s : List ℕ) → length s ≡ 0 → bytes_text s ≡ text "-"
+unfolding bytes_text
+bytes_none [] h = refl
+bytes_none (b ∷ s) h = absurd (omega arith)
 
-pub bytes-some : (s : List ℕ) → (length s ≡ 0 → ⊥) → bytesText s ≡ digitsText s
-unfolding bytesText
-bytes-some [] h = absurd (h refl)
-bytes-some (b ∷ s) h = refl
+pub bytes_some : (s : List ℕ) → (length s ≡ 0 → ⊥) → bytes_text s ≡ digits_text s
+unfolding bytes_text
+bytes_some [] h = absurd (h refl)
+bytes_some (b ∷ s) h = refl
 
 -- a list by its first entry
-pub parted-none : {A : Type 0} (entry : A → List ℕ) (s : List A) → length s ≡ 0 → parted entry s ≡ text "-"
+pub parted_none : {A : Type 0} (entry : A → List ℕ) (s : List A) → length s ≡ 0 → parted entry s ≡ text "-"
 unfolding parted
-parted-none entry [] h = refl
-parted-none entry (a ∷ s) h = absurd (omega arith)
+parted_none entry [] h = refl
+parted_none entry (a ∷ s) h = absurd (omega arith)
 
-pub parted-some : {A : Type 0} (entry : A → List ℕ) (s : List A) (d : A) → (length s ≡ 0 → ⊥)
-    → parted entry s ≡ entry (get_or s 0 d) ++ behindCommas entry (drop 1 s)
+pub parted_some : {A : Type 0} (entry : A → List ℕ) (s : List A) (d : A) → (length s ≡ 0 → ⊥)
+    → parted entry s ≡ entry (get_or s 0 d) ++ behind_commas entry (drop 1 s)
 unfolding parted
-parted-some entry [] d h = absurd (h refl)
-parted-some entry (a ∷ s) d h = refl
+parted_some entry [] d h = absurd (h refl)
+parted_some entry (a ∷ s) d h = refl
 
-small : (k n : ℕ) → n < 10 → decimalDigits k n ≡ (48 + n) ∷ []
-unfolding decimalDigits
+small : (k n : ℕ) → n < 10 → decimal_digits k n ≡ (48 + n) ∷ []
+unfolding decimal_digits
 small zero n h = refl
 small (suc k) n h = rw (lt-ltb _ _ h)
 
-more : (k n : ℕ) → 10 ≤ n → decimalDigits (suc k) n ≡ decimalDigits k (n / 10) ++ ((48 + n % 10) ∷ [])
-unfolding decimalDigits
+more : (k n : ℕ) → 10 ≤ n → decimal_digits (suc k) n ≡ decimal_digits k (n / 10) ++ ((48 + n % 10) ∷ [])
+unfolding decimal_digits
 more k n h = rw (le-ltb _ _ h)
 
-step : (f g n : ℕ) (b : Bool) → ltb n 10 ≡ b → (n / 10 ≤ f → n / 10 ≤ g → decimalDigits f (n / 10) ≡ decimalDigits g (n / 10)) → n ≤ suc f → n ≤ suc g
-    → decimalDigits (suc f) n ≡ decimalDigits (suc g) n
+step : (f g n : ℕ) (b : Bool) → ltb n 10 ≡ b → (n / 10 ≤ f → n / 10 ≤ g → decimal_digits f (n / 10) ≡ decimal_digits g (n / 10)) → n ≤ suc f → n ≤ suc g
+    → decimal_digits (suc f) n ≡ decimal_digits (suc g) n
 step f g n true e ih hf hg = let h = ltb-true n 10 e in small (suc f) n h ∙ sym (small (suc g) n h)
 step f g n false e ih hf hg =
     let h = ltb-false n 10 e in
     more f n h ∙ ap (λ (r : List ℕ). r ++ ((48 + n % 10) ∷ [])) (ih (omega arith) (omega arith)) ∙ sym (more g n h)
 
 -- any count that is large enough gives the same
-same : (f g n : ℕ) → n ≤ f → n ≤ g → decimalDigits f n ≡ decimalDigits g n
+same : (f g n : ℕ) → n ≤ f → n ≤ g → decimal_digits f n ≡ decimal_digits g n
 same zero g n hf hg = small zero n (omega arith) ∙ sym (small g n (omega arith))
 same (suc f) zero n hf hg = small (suc f) n (omega arith) ∙ sym (small zero n (omega arith))
 same (suc f) (suc g) n hf hg = step f g n (ltb n 10) refl (same f g (n / 10)) hf hg
 
-pub decimal-small : (n : ℕ) → n < 10 → decimalText n ≡ (48 + n) ∷ []
-unfolding decimalText
-decimal-small n h = small n n h
+pub decimal_small : (n : ℕ) → n < 10 → decimal_text n ≡ (48 + n) ∷ []
+unfolding decimal_text
+decimal_small n h = small n n h
 
-pub decimal-more : (n : ℕ) → 10 ≤ n → decimalText n ≡ decimalText (n / 10) ++ ((48 + n % 10) ∷ [])
-unfolding decimalText
-decimal-more zero h = absurd (not-suc-le-zero h)
-decimal-more (suc n) h =
+pub decimal_more : (n : ℕ) → 10 ≤ n → decimal_text n ≡ decimal_text (n / 10) ++ ((48 + n % 10) ∷ [])
+unfolding decimal_text
+decimal_more zero h = absurd (not-suc-le-zero h)
+decimal_more (suc n) h =
     more n (suc n) h ∙ ap (λ (r : List ℕ). r ++ ((48 + suc n % 10) ∷ [])) (same n (suc n / 10) (suc n / 10) (omega arith) (omega arith))
 
 -- a number below a power of ten has no more digits than that has noughts
@@ -70,12 +70,12 @@ abbrev pub tens : ℕ → ℕ
 tens zero = 10
 tens (suc k) = 10 * tens k
 
-pub decimal-length : (k n : ℕ) → n < tens k → length (decimalText n) ≤ suc k
-decimal-length zero n h = rw (decimal-small n h) (omega arith)
-decimal-length (suc k) n h = go (ltb n 10) refl (decimal-length k (n / 10))
+pub decimal_length : (k n : ℕ) → n < tens k → length (decimal_text n) ≤ suc k
+decimal_length zero n h = rw (decimal_small n h) (omega arith)
+decimal_length (suc k) n h = go (ltb n 10) refl (decimal_length k (n / 10))
   where
-    go : (b : Bool) → ltb n 10 ≡ b → (n / 10 < tens k → length (decimalText (n / 10)) ≤ suc k) → length (decimalText n) ≤ suc (suc k)
-    go true e ih = rw (decimal-small n (ltb-true n 10 e)) (omega arith)
+    go : (b : Bool) → ltb n 10 ≡ b → (n / 10 < tens k → length (decimal_text (n / 10)) ≤ suc k) → length (decimal_text n) ≤ suc (suc k)
+    go true e ih = rw (decimal_small n (ltb-true n 10 e)) (omega arith)
     go false e ih =
         let rest = ih (omega arith) in
-        rw (decimal-more n (ltb-false n 10 e), length-append (decimalText (n / 10)) ((48 + n % 10) ∷ [])) (omega arith)
+        rw (decimal_more n (ltb-false n 10 e), length-append (decimal_text (n / 10)) ((48 + n % 10) ∷ [])) (omega arith)

@@ -1,6 +1,6 @@
 // Hexadecimal digits, in capitals.
 ghost use Rattle.std.specs.Prelude.{◌≡◌, ◌%◌};
-ghost use Rattle.felica_text.specs.Text.{digitText, digitOf};
+ghost use Rattle.felica_text.specs.Text.{digit_text, digit_of};
 
 // What a byte is as a digit.
 #[derive(Clone, Copy)]
@@ -11,7 +11,7 @@ pub enum Digit {
 
 // The digit of the low four bits.
 pub fn hex_digit(value: u8) -> u8
-    ensures { result ≡ digitText (value % 16) }
+    ensures { result ≡ digit_text (value % 16) }
 {
     let low = value % 16;
     if low < 10 {
@@ -22,7 +22,7 @@ pub fn hex_digit(value: u8) -> u8
 }
 
 pub fn digit_value(digit: u8) -> Digit
-    ensures { result ≡ digitOf digit }
+    ensures { result ≡ digit_of digit }
 {
     match digit {
         b'0'..=b'9' => Digit::Value(digit - b'0'),

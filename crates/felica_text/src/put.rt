@@ -1,6 +1,6 @@
 // Numbers and lists put into a lent buffer as text, as felica_put puts bytes.
 ghost use Rattle.std.specs.Prelude.{◌≡◌};
-ghost use Rattle.felica_text.specs.Text.{byteText, wordText, nibbleText, digitsText, bytesText, parted, decimalText};
+ghost use Rattle.felica_text.specs.Text.{byte_text, word_text, nibble_text, digits_text, bytes_text, parted, decimal_text};
 ghost use Rattle.felica_put.specs.Put.{buffer, put};
 
 use crate::hex::hex_digit;
@@ -8,7 +8,7 @@ use felica_put::put_byte;
 
 // A byte in two digits.
 pub fn put_hex_byte(out: &mut [u8], at: usize, byte: u8) -> usize
-    ensures { buffer out.new result ≡ put (buffer out.old at) (byteText byte) }
+    ensures { buffer out.new result ≡ put (buffer out.old at) (byte_text byte) }
 {
     let next = put_byte(out, at, hex_digit(byte / 16));
     put_byte(out, next, hex_digit(byte))
@@ -16,7 +16,7 @@ pub fn put_hex_byte(out: &mut [u8], at: usize, byte: u8) -> usize
 
 // A two-byte number in four digits.
 pub fn put_hex_word(out: &mut [u8], at: usize, word: u16) -> usize
-    ensures { buffer out.new result ≡ put (buffer out.old at) (wordText word) }
+    ensures { buffer out.new result ≡ put (buffer out.old at) (word_text word) }
 {
     let next = put_hex_byte(out, at, (word / 256) as u8);
     put_hex_byte(out, next, (word % 256) as u8)
@@ -24,7 +24,7 @@ pub fn put_hex_word(out: &mut [u8], at: usize, word: u16) -> usize
 
 // Bytes in two digits each, and `-` for none.
 pub fn put_hex(out: &mut [u8], at: usize, bytes: &[u8]) -> usize
-    ensures { buffer out.new result ≡ put (buffer out.old at) (bytesText bytes.now) }
+    ensures { buffer out.new result ≡ put (buffer out.old at) (bytes_text bytes.now) }
 {
     if bytes.len() == 0 {
         put_byte(out, at, b'-')
@@ -34,7 +34,7 @@ pub fn put_hex(out: &mut [u8], at: usize, bytes: &[u8]) -> usize
 }
 
 fn put_hex_bytes(out: &mut [u8], at: usize, bytes: &[u8]) -> usize
-    ensures { buffer out.new result ≡ put (buffer out.old at) (digitsText bytes.now) }
+    ensures { buffer out.new result ≡ put (buffer out.old at) (digits_text bytes.now) }
 {
     let mut next = at;
     let mut i = 0;
@@ -47,7 +47,7 @@ fn put_hex_bytes(out: &mut [u8], at: usize, bytes: &[u8]) -> usize
 
 // Two-byte numbers in four digits each, parted by commas, and `-` for none.
 pub fn put_words(out: &mut [u8], at: usize, words: &[u16]) -> usize
-    ensures { buffer out.new result ≡ put (buffer out.old at) (parted wordText words.now) }
+    ensures { buffer out.new result ≡ put (buffer out.old at) (parted word_text words.now) }
 {
     if words.len() == 0 {
         return put_byte(out, at, b'-');
@@ -64,7 +64,7 @@ pub fn put_words(out: &mut [u8], at: usize, words: &[u16]) -> usize
 
 // Numbers below 16 in one digit each, parted by commas, and `-` for none.
 pub fn put_nibbles(out: &mut [u8], at: usize, nibbles: &[u8]) -> usize
-    ensures { buffer out.new result ≡ put (buffer out.old at) (parted nibbleText nibbles.now) }
+    ensures { buffer out.new result ≡ put (buffer out.old at) (parted nibble_text nibbles.now) }
 {
     if nibbles.len() == 0 {
         return put_byte(out, at, b'-');
@@ -80,7 +80,7 @@ pub fn put_nibbles(out: &mut [u8], at: usize, nibbles: &[u8]) -> usize
 }
 
 pub fn put_decimal(out: &mut [u8], at: usize, number: usize) -> usize
-    ensures { buffer out.new result ≡ put (buffer out.old at) (decimalText number) }
+    ensures { buffer out.new result ≡ put (buffer out.old at) (decimal_text number) }
 {
     if number < 10 {
         put_byte(out, at, b'0' + number as u8)

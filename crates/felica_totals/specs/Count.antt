@@ -8,8 +8,8 @@ use Rattle.felica_totals.specs.declared.Totals.{Totals}
 abbrev pub totals : ℕ → ℕ → ℕ → ℕ → Totals
 totals records accepted refused blocks = record { records = records; accepted = accepted; refused = refused; blocks = blocks }
 
-abbrev pub noTotals : Totals
-noTotals = totals 0 0 0 0
+abbrev pub no_totals : Totals
+no_totals = totals 0 0 0 0
 
 -- after one more record, which was accepted with so many blocks or refused
 abbrev pub counted : Totals → Bool → ℕ → Totals
@@ -17,10 +17,10 @@ counted t true blocks = totals (t.records + 1) (t.accepted + 1) t.refused (t.blo
 counted t false blocks = totals (t.records + 1) t.accepted (t.refused + 1) t.blocks
 
 -- no total passes its width by one more record of so many blocks, whether it is accepted or refused
-unfoldable pub hasRoom : Totals → ℕ → Bool
-hasRoom t blocks =
+unfoldable pub has_room : Totals → ℕ → Bool
+has_room t blocks =
     ltb (t.records + 1) (2 ^ 64) and ltb (t.accepted + 1) (2 ^ 64) and ltb (t.refused + 1) (2 ^ 64) and ltb (t.blocks + blocks) (2 ^ 64)
 
 -- totals without room stay as they are
-unfoldable pub countedWithin : Totals → Bool → ℕ → Totals
-countedWithin t accepted blocks = cond (hasRoom t blocks) (counted t accepted blocks) t
+unfoldable pub counted_within : Totals → Bool → ℕ → Totals
+counted_within t accepted blocks = cond (has_room t blocks) (counted t accepted blocks) t

@@ -2,7 +2,7 @@
 #![tactic(auto)]
 
 ghost use Rattle.std.specs.Prelude.{◌≡◌};
-ghost use Rattle.felica_totals.specs.Count.{noTotals, hasRoom, countedWithin};
+ghost use Rattle.felica_totals.specs.Count.{no_totals, has_room, counted_within};
 
 #[derive(Clone, Copy)]
 pub struct Totals {
@@ -15,7 +15,7 @@ pub struct Totals {
 
 impl Totals {
     pub fn new() -> Self
-        ensures { result ≡ noTotals }
+        ensures { result ≡ no_totals }
     {
         Self {
             records: 0,
@@ -27,7 +27,7 @@ impl Totals {
 
     // Whether one more record of so many blocks can be counted, accepted or refused, without a sum past its width.
     pub fn has_room(self, blocks: usize) -> bool
-        ensures { result ≡ hasRoom self blocks }
+        ensures { result ≡ has_room self blocks }
     {
         if self.records == usize::MAX {
             return false;
@@ -44,7 +44,7 @@ impl Totals {
 
 // The totals after one more record; where they have no room for it, as they were.
 fn count(totals: Totals, accepted: bool, blocks: usize) -> Totals
-    ensures { result ≡ countedWithin totals accepted blocks }
+    ensures { result ≡ counted_within totals accepted blocks }
 {
     if !totals.has_room(blocks) {
         return totals;
@@ -70,14 +70,14 @@ fn count(totals: Totals, accepted: bool, blocks: usize) -> Totals
 
 // Brings lent totals up to date after one more record.
 pub fn count_record(totals: &mut Totals, accepted: bool, blocks: usize)
-    ensures { totals.new ≡ countedWithin totals.old accepted blocks }
+    ensures { totals.new ≡ counted_within totals.old accepted blocks }
 {
     *totals = count(*totals, accepted, blocks);
 }
 
 // The totals after one more record by way of `count_record`, so that a caller that holds them by value need not lend them.
 pub fn after_record(totals: Totals, accepted: bool, blocks: usize) -> Totals
-    ensures { result ≡ countedWithin totals accepted blocks }
+    ensures { result ≡ counted_within totals accepted blocks }
 {
     let mut next = totals;
     count_record(&mut next, accepted, blocks);

@@ -1,16 +1,16 @@
 // The fixed fields.
 ghost use Rattle.std.specs.Prelude.{◌≡◌, suc, ◌-◌, length, drop};
-ghost use Rattle.felica_format.specs.Basic.{◌and◌, allBelow, Bytes, zeros};
-ghost use Rattle.felica_format.specs.Command.{endFields};
-ghost use Rattle.felica_format.specs.Writable.{sameList, areBytes, idmOk, selectorOk, ranges, rangesOf, endFieldsOk};
-ghost use Rattle.felica_layout.specs.Layout.{selectorMeant, endingMeant};
+ghost use Rattle.felica_format.specs.Basic.{◌and◌, all_below, Bytes, zeros};
+ghost use Rattle.felica_format.specs.Command.{end_fields};
+ghost use Rattle.felica_format.specs.Writable.{same_list, are_bytes, idm_ok, selector_ok, ranges, ranges_of, end_fields_ok};
+ghost use Rattle.felica_layout.specs.Layout.{selector_meant, ending_meant};
 
 use felica_command::fixed::Fixed;
 use felica_format::constants::is_polling_time_slot;
 use felica_layout::{Ending, Selector};
 
 pub(crate) fn idm_ok(present: bool, idm: [u8; 8]) -> bool
-    ensures { result ≡ idmOk present idm }
+    ensures { result ≡ idm_ok present idm }
 {
     if present {
         return true;
@@ -19,7 +19,7 @@ pub(crate) fn idm_ok(present: bool, idm: [u8; 8]) -> bool
 }
 
 pub(crate) fn selector_ok(selector: Selector, value: u8) -> bool
-    ensures { result ≡ selectorOk (selectorMeant selector) value }
+    ensures { result ≡ selector_ok (selector_meant selector) value }
 {
     match selector {
         Selector::NoSelector => value == 0,
@@ -30,7 +30,7 @@ pub(crate) fn selector_ok(selector: Selector, value: u8) -> bool
 
 // Whether the bytes from a place on are zeros.
 fn zeros_from(bytes: &[u8], from: usize) -> bool
-    ensures { (result ≡ sameList (drop from bytes.now) (zeros (length bytes.now - from))) × Bytes bytes.now }
+    ensures { (result ≡ same_list (drop from bytes.now) (zeros (length bytes.now - from))) × Bytes bytes.now }
 {
     if bytes.len() < from {
         return true;
@@ -40,7 +40,7 @@ fn zeros_from(bytes: &[u8], from: usize) -> bool
 
 // Without an early exit, so that the compiler can test many bytes at once.
 fn all_zero(bytes: &[u8]) -> bool
-    ensures { result ≡ allBelow 1 bytes.now }
+    ensures { result ≡ all_below 1 bytes.now }
 {
     let mut clear = true;
     let mut i = 0;
@@ -54,7 +54,7 @@ fn all_zero(bytes: &[u8]) -> bool
 }
 
 fn challenge_ok(challenge: [u8; 16], filled: usize) -> bool
-    ensures { result ≡ (areBytes 16 challenge and sameList (drop filled challenge) (zeros (16 - filled))) }
+    ensures { result ≡ (are_bytes 16 challenge and same_list (drop filled challenge) (zeros (16 - filled))) }
 {
     // Most commands have none of it: apart, so that the compiler knows how many bytes to test.
     if filled == 0 {
@@ -73,7 +73,7 @@ struct Greatest {
 }
 
 fn greatest_of(ending: Ending) -> Greatest
-    ensures { ranges (suc result.number) (suc result.index) (suc result.option) (rangesOf (endingMeant ending)).choices result.challenge ≡ rangesOf (endingMeant ending) }
+    ensures { ranges (suc result.number) (suc result.index) (suc result.option) (ranges_of (ending_meant ending)).choices result.challenge ≡ ranges_of (ending_meant ending) }
 {
     match ending {
         Ending::Bytes(count) => greatest_values(0, 0, 0, count),
@@ -98,7 +98,7 @@ fn greatest_values(number: u16, index: u16, option: u8, challenge: usize) -> Gre
 
 // Time slots, packet type.
 fn choice_ok(ending: Ending, choice: u8) -> bool
-    ensures { result ≡ (rangesOf (endingMeant ending)).choices choice }
+    ensures { result ≡ (ranges_of (ending_meant ending)).choices choice }
 {
     match ending {
         Ending::Polling => is_polling_time_slot(choice),
@@ -111,7 +111,7 @@ fn choice_ok(ending: Ending, choice: u8) -> bool
 }
 
 pub(crate) fn end_fields_ok(ending: Ending, fixed: Fixed) -> bool
-    ensures { result ≡ endFieldsOk (rangesOf (endingMeant ending)) (endFields fixed.number fixed.index fixed.option fixed.choice fixed.challenge) }
+    ensures { result ≡ end_fields_ok (ranges_of (ending_meant ending)) (end_fields fixed.number fixed.index fixed.option fixed.choice fixed.challenge) }
 {
     let most = greatest_of(ending);
     let challenge = fixed.challenge;

@@ -2,9 +2,9 @@
 #![tactic(auto)]
 
 ghost use Rattle.std.specs.Prelude.{◌≡◌, ℕ};
-ghost use Rattle.felica_format.specs.Writable.{bodyOk};
+ghost use Rattle.felica_format.specs.Writable.{body_ok};
 ghost use Rattle.felica_command.specs.Handed.{handed};
-ghost use Rattle.felica_layout.specs.Layout.{layoutMeant};
+ghost use Rattle.felica_layout.specs.Layout.{layout_meant};
 
 mod fields;
 mod lists;
@@ -25,7 +25,7 @@ pub fn body_ok(
     data: &[u8],
     package: &[u8],
 ) -> bool
-    ensures { (code : ℕ) → result ≡ bodyOk (layoutMeant layout) (handed code fixed first.now second.now numbers.now places.now modes.now «data».now «package».now) }
+    ensures { (code : ℕ) → result ≡ body_ok (layout_meant layout) (handed code fixed first.now second.now numbers.now places.now modes.now «data».now «package».now) }
 {
     let selector = layout.selector;
     let first_codes = layout.first;

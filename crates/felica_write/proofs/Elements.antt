@@ -9,75 +9,75 @@ use lib.ListN.{length, get_or, drop, length-append, drop_of_length-le}
 use lib.Seq.{get_or-drop}
 use lib.Dec.{ltb}
 use borrow.Author.Tests.{ltb-true, lt-ltb, le-ltb}
-use Rattle.felica_format.specs.Basic.{◌and◌, allBelow}
-use Rattle.felica_format.specs.Command.{Element, zipElements}
-use Rattle.felica_format.specs.Write.{shortBytes, longBytes, elementBytes, eachBytes, elementsBytes}
-use Rattle.felica_format.proofs.Tests.{and-left, and-right}
-use Rattle.felica_put.proofs.Laws.{drop-next}
-use Rattle.felica_writable.proofs.Laws.{zip-length}
-use Rattle.felica_write.specs.Size.{shortSize}
+use Rattle.felica_format.specs.Basic.{◌and◌, all_below}
+use Rattle.felica_format.specs.Command.{Element, zip_elements}
+use Rattle.felica_format.specs.Write.{short_bytes, long_bytes, element_bytes, each_bytes, elements_bytes}
+use Rattle.felica_format.proofs.Tests.{and_left, and_right}
+use Rattle.felica_put.proofs.Laws.{drop_next}
+use Rattle.felica_writable.proofs.Laws.{zip_length}
+use Rattle.felica_write.specs.Size.{short_size}
 use Rattle.felica_write.specs.Body.{element}
 
-pub zip-at : (ns ps ms : List ℕ) (i : ℕ) (e : Element) → i < length ns
-    → get_or (zipElements ns ps ms) i e ≡ element (get_or ns i 0) (get_or ps i 0) (get_or ms i 0)
-unfolding zipElements
-zip-at [] ps ms i e h = absurd (omega arith)
-zip-at (n ∷ ns) ps ms zero e h = refl
-zip-at (n ∷ ns) ps ms (suc i) e h =
+pub zip_at : (ns ps ms : List ℕ) (i : ℕ) (e : Element) → i < length ns
+    → get_or (zip_elements ns ps ms) i e ≡ element (get_or ns i 0) (get_or ps i 0) (get_or ms i 0)
+unfolding zip_elements
+zip_at [] ps ms i e h = absurd (omega arith)
+zip_at (n ∷ ns) ps ms zero e h = refl
+zip_at (n ∷ ns) ps ms (suc i) e h =
     let next : 1 + i ≡ suc i = omega arith in
-    rw (zip-at ns (drop 1 ps) (drop 1 ms) i e (omega arith), get_or-drop 1 ps i 0, get_or-drop 1 ms i 0, next)
+    rw (zip_at ns (drop 1 ps) (drop 1 ms) i e (omega arith), get_or-drop 1 ps i 0, get_or-drop 1 ms i 0, next)
 
 -- an entry of a list whose entries are below a bound
-pub small-at : (bound : ℕ) (s : List ℕ) (i : ℕ) → 0 < bound → allBelow bound s ≡ true → get_or s i 0 < bound
-small-at bound [] i some h = some
-small-at bound (x ∷ xs) zero some h = ltb-true x bound (and-left (ltb x bound) (allBelow bound xs) h)
-small-at bound (x ∷ xs) (suc i) some h = small-at bound xs i some (and-right (ltb x bound) (allBelow bound xs) h)
+pub small_at : (bound : ℕ) (s : List ℕ) (i : ℕ) → 0 < bound → all_below bound s ≡ true → get_or s i 0 < bound
+small_at bound [] i some h = some
+small_at bound (x ∷ xs) zero some h = ltb-true x bound (and_left (ltb x bound) (all_below bound xs) h)
+small_at bound (x ∷ xs) (suc i) some h = small_at bound xs i some (and_right (ltb x bound) (all_below bound xs) h)
 
 -- the two forms of an element that is written as short as may be
-pub short-form : (n p m : ℕ) → n < 256 → elementBytes false (element n p m) ≡ shortBytes (element n p m)
-unfolding elementBytes ◌and◌
-short-form n p m h = rw (lt-ltb n 256 h)
+pub short_form : (n p m : ℕ) → n < 256 → element_bytes false (element n p m) ≡ short_bytes (element n p m)
+unfolding element_bytes ◌and◌
+short_form n p m h = rw (lt-ltb n 256 h)
 
-pub long-form : (n p m : ℕ) → 256 ≤ n → elementBytes false (element n p m) ≡ longBytes (element n p m)
-unfolding elementBytes ◌and◌
-long-form n p m h = rw (le-ltb n 256 h)
+pub long_form : (n p m : ℕ) → 256 ≤ n → element_bytes false (element n p m) ≡ long_bytes (element n p m)
+unfolding element_bytes ◌and◌
+long_form n p m h = rw (le-ltb n 256 h)
 
 -- their lengths
-element-length : (e : Element) → length (elementBytes false e) ≡ cond (ltb e.number 256) 2 3
-unfolding elementBytes shortBytes longBytes ◌and◌
-element-length e = go (ltb e.number 256)
+element_length : (e : Element) → length (element_bytes false e) ≡ cond (ltb e.number 256) 2 3
+unfolding element_bytes short_bytes long_bytes ◌and◌
+element_length e = go (ltb e.number 256)
   where
-    go : (b : Bool) → length (cond b (shortBytes e) (longBytes e)) ≡ cond b 2 3
+    go : (b : Bool) → length (cond b (short_bytes e) (long_bytes e)) ≡ cond b 2 3
     go true = refl
     go false = refl
 
-pub each-length : (ns ps ms : List ℕ) → length (eachBytes [] (zipElements ns ps ms)) ≡ shortSize ns
-unfolding zipElements eachBytes shortSize
-each-length [] ps ms = refl
-each-length (n ∷ ns) ps ms =
-    length-append (elementBytes false (element n (get_or ps 0 0) (get_or ms 0 0))) _
-    ∙ rw (element-length (element n (get_or ps 0 0) (get_or ms 0 0)), each-length ns (drop 1 ps) (drop 1 ms)) refl
+pub each_length : (ns ps ms : List ℕ) → length (each_bytes [] (zip_elements ns ps ms)) ≡ short_size ns
+unfolding zip_elements each_bytes short_size
+each_length [] ps ms = refl
+each_length (n ∷ ns) ps ms =
+    length-append (element_bytes false (element n (get_or ps 0 0) (get_or ms 0 0))) _
+    ∙ rw (element_length (element n (get_or ps 0 0) (get_or ms 0 0)), each_length ns (drop 1 ps) (drop 1 ms)) refl
 
 -- the size of a list of block numbers, entry by entry
-pub size-bound : (ns : List ℕ) → shortSize ns ≤ 3 * length ns
-unfolding shortSize
-size-bound [] = omega arith
-size-bound (n ∷ ns) = go (ltb n 256) (size-bound ns)
+pub size_bound : (ns : List ℕ) → short_size ns ≤ 3 * length ns
+unfolding short_size
+size_bound [] = omega arith
+size_bound (n ∷ ns) = go (ltb n 256) (size_bound ns)
   where
-    go : (b : Bool) → shortSize ns ≤ 3 * length ns → cond b 2 3 + shortSize ns ≤ 3 * suc (length ns)
+    go : (b : Bool) → short_size ns ≤ 3 * length ns → cond b 2 3 + short_size ns ≤ 3 * suc (length ns)
     go true h = omega arith
     go false h = omega arith
 
-pub size-next : (ns : List ℕ) (i : ℕ) → i < length ns → shortSize (drop i ns) ≡ cond (ltb (get_or ns i 0) 256) 2 3 + shortSize (drop (i + 1) ns)
-unfolding shortSize
-size-next ns i h = ap shortSize (drop-next ns i 0 h)
+pub size_next : (ns : List ℕ) (i : ℕ) → i < length ns → short_size (drop i ns) ≡ cond (ltb (get_or ns i 0) 256) 2 3 + short_size (drop (i + 1) ns)
+unfolding short_size
+size_next ns i h = ap short_size (drop_next ns i 0 h)
 
-pub size-done : (ns : List ℕ) (i : ℕ) → length ns ≤ i → shortSize (drop i ns) ≡ 0
-unfolding shortSize
-size-done ns i h = ap shortSize (drop_of_length-le ns h)
+pub size_done : (ns : List ℕ) (i : ℕ) → length ns ≤ i → short_size (drop i ns) ≡ 0
+unfolding short_size
+size_done ns i h = ap short_size (drop_of_length-le ns h)
 
 -- the count in front
 pub counted : (there : Bool) (ns ps ms : List ℕ) → there ≡ true
-    → (length ns ∷ []) ++ eachBytes [] (zipElements ns ps ms) ≡ elementsBytes there [] (zipElements ns ps ms)
-unfolding elementsBytes
-counted there ns ps ms e = rw (e, zip-length ns ps ms)
+    → (length ns ∷ []) ++ each_bytes [] (zip_elements ns ps ms) ≡ elements_bytes there [] (zip_elements ns ps ms)
+unfolding elements_bytes
+counted there ns ps ms e = rw (e, zip_length ns ps ms)

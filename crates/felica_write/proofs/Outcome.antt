@@ -13,21 +13,21 @@ use borrow.Author.Tests.{lt-ltb, le-ltb, le-leb, lt-leb, ltb-true, ltb-false}
 use Rattle.felica_format.specs.declared.classes.Class.{Class}
 use Rattle.felica_format.specs.declared.classes.Class.TheVariants.{Plain, Secure, Unknown}
 use Rattle.felica_format.specs.Command.{Command}
-use Rattle.felica_format.specs.Layout.{Layout, classOf, layoutOf}
-use Rattle.felica_format.specs.Write.{packageBytes, bodyBytes, frameOf, secureOf}
-use Rattle.felica_format.specs.Writable.{bodyOk, fitsClass, writable, shortest, written}
+use Rattle.felica_format.specs.Layout.{Layout, class_of, layout_of}
+use Rattle.felica_format.specs.Write.{package_bytes, body_bytes, frame_of, secure_of}
+use Rattle.felica_format.specs.Writable.{body_ok, fits_class, writable, shortest, written}
 use Rattle.felica_format.proofs.Body.{Narrow}
-use Rattle.felica_format.proofs.Rows.{every-layout, plain-package}
-use Rattle.felica_layout.specs.Layout.{row, rowOf}
+use Rattle.felica_format.proofs.Rows.{every_layout, plain_package}
+use Rattle.felica_layout.specs.Layout.{row, row_of}
 use Rattle.felica_put.specs.Put.{buffer, put}
-use Rattle.felica_put.proofs.Laws.{put-front}
+use Rattle.felica_put.proofs.Laws.{put_front}
 use Rattle.felica_writable.proofs.Laws.{stop, pass}
-use Rattle.felica_write.specs.Size.{Few, frontSize}
+use Rattle.felica_write.specs.Size.{Few, front_size}
 use Rattle.felica_write.specs.Body.{Ready}
-use Rattle.felica_write.specs.Head.{headBytes, frameRoom, payloadRoom, roomFor}
+use Rattle.felica_write.specs.Head.{head_bytes, frame_room, payload_room, room_for}
 use Rattle.felica_write.specs.declared.head.Room.TheVariants.{Enough, Refused}
 use Rattle.felica_write.specs.Writing.{wrote, refused, outcome, writing}
-use Rattle.felica_write.proofs.Ready.{ready, body-length}
+use Rattle.felica_write.proofs.Ready.{ready, body_length}
 
 -- the three outcomes
 module _ (c : Command) (out : List ℕ) where
@@ -35,144 +35,144 @@ module _ (c : Command) (out : List ℕ) where
   unfolding writing written
   unwritten e = rw e
 
-  module _ (s : List ℕ) (ok : writable c ≡ true) (is : shortest (classOf c.code) c ≡ s) where
-    pub buffer-small : length out < length s → outcome (refused 21 (some c.code)) out ≡ writing c out
+  module _ (s : List ℕ) (ok : writable c ≡ true) (is : shortest (class_of c.code) c ≡ s) where
+    pub buffer_small : length out < length s → outcome (refused 21 (some c.code)) out ≡ writing c out
     unfolding writing written
-    buffer-small h = rw (ok, is, lt-ltb (length out) (length s) h)
+    buffer_small h = rw (ok, is, lt-ltb (length out) (length s) h)
 
-    pub stored-whole : (after : List ℕ) (n : ℕ) → length s ≤ length out → buffer after n ≡ put (buffer out 0) s → outcome (wrote n) after ≡ writing c out
+    pub stored_whole : (after : List ℕ) (n : ℕ) → length s ≤ length out → buffer after n ≡ put (buffer out 0) s → outcome (wrote n) after ≡ writing c out
     unfolding writing written
-    stored-whole after n h e =
-        let front = e ∙ put-front s out h in
+    stored_whole after n h e =
+        let front = e ∙ put_front s out h in
         rw (ok, is, le-ltb (length out) (length s) h, ap (λ b. b.bytes) front, ap (λ b. b.next) front)
 
 -- so few entries that no sum of sizes overflows
-pub few : (l : Layout) (c : Command) → Ready l c → Few l (length c.first) (length c.second) (length c.numbers) (length c.blockData)
+pub few : (l : Layout) (c : Command) → Ready l c → Few l (length c.first) (length c.second) (length c.numbers) (length c.block_data)
 few l c r =
-    record { first-few = r.few-first; second-few = r.few-second; blocks-few = r.few-blocks; data-few = r.few-data; ending-few = r.few-fixed }
+    record { first_few = r.few_first; second_few = r.few_second; blocks_few = r.few_blocks; data_few = r.few_data; ending_few = r.few_fixed }
 
 -- what the tests of the room say
-enough-tests : (a b : Bool) → cond a (Refused 22) (cond b (Refused 21) Enough) ≡ Enough → (a ≡ false) × (b ≡ false)
-enough-tests true b r = (cc, cc)
-enough-tests false true r = (refl, cc)
-enough-tests false false r = (refl, refl)
+enough_tests : (a b : Bool) → cond a (Refused 22) (cond b (Refused 21) Enough) ≡ Enough → (a ≡ false) × (b ≡ false)
+enough_tests true b r = (cc, cc)
+enough_tests false true r = (refl, cc)
+enough_tests false false r = (refl, refl)
 
-enough-test : (b : Bool) → cond b (Refused 21) Enough ≡ Enough → b ≡ false
-enough-test true r = cc
-enough-test false r = refl
+enough_test : (b : Bool) → cond b (Refused 21) Enough ≡ Enough → b ≡ false
+enough_test true r = cc
+enough_test false r = refl
 
-not-enough : {g : ℕ} → Refused g ≡ Enough → ⊥
-not-enough r = let z : ◌≡◌ {A = ℕ} 0 1 = cc in omega arith
+not_enough : {g : ℕ} → Refused g ≡ Enough → ⊥
+not_enough r = let z : ◌≡◌ {A = ℕ} 0 1 = cc in omega arith
 
-not-refused : {g : ℕ} → Enough ≡ Refused g → ⊥
-not-refused r = let z : ◌≡◌ {A = ℕ} 0 1 = cc in omega arith
+not_refused : {g : ℕ} → Enough ≡ Refused g → ⊥
+not_refused r = let z : ◌≡◌ {A = ℕ} 0 1 = cc in omega arith
 
-not-plain : Secure ≡ Plain → ⊥
-not-plain r = let z : ◌≡◌ {A = ℕ} 0 1 = cc in omega arith
+not_plain : Secure ≡ Plain → ⊥
+not_plain r = let z : ◌≡◌ {A = ℕ} 0 1 = cc in omega arith
 
 -- the row of the code handed in
-module _ (c : Command) (k : Class) (l : Layout) (found : row k l ≡ rowOf c.code) where
-  class-is : k ≡ classOf c.code
-  unfolding rowOf
-  class-is = ap (λ r. r.class) found
+module _ (c : Command) (k : Class) (l : Layout) (found : row k l ≡ row_of c.code) where
+  class_is : k ≡ class_of c.code
+  unfolding row_of
+  class_is = ap (λ r. r.class) found
 
-  layout-is : l ≡ layoutOf c.code
-  unfolding rowOf
-  layout-is = ap (λ r. r.layout) found
+  layout_is : l ≡ layout_of c.code
+  unfolding row_of
+  layout_is = ap (λ r. r.layout) found
 
   pub narrow : Narrow l
-  narrow = subst Narrow (sym layout-is) (every-layout c.code)
+  narrow = subst Narrow (sym layout_is) (every_layout c.code)
 
-  frame-is : frameOf [] c ≡ suc (suc (length (bodyBytes l [] c))) ∷ c.code ∷ bodyBytes l [] c
-  unfolding frameOf
-  frame-is = rw layout-is
+  frame_is : frame_of [] c ≡ suc (suc (length (body_bytes l [] c))) ∷ c.code ∷ body_bytes l [] c
+  unfolding frame_of
+  frame_is = rw layout_is
 
-  payload-is : secureOf [] c ≡ bodyBytes l [] c
-  unfolding secureOf
-  payload-is = rw layout-is
+  payload_is : secure_of [] c ≡ body_bytes l [] c
+  unfolding secure_of
+  payload_is = rw layout_is
 
-  pub no-body : (out : List ℕ) → bodyOk l c ≡ false → outcome (refused 22 (some c.code)) out ≡ writing c out
+  pub no_body : (out : List ℕ) → body_ok l c ≡ false → outcome (refused 22 (some c.code)) out ≡ writing c out
   unfolding writable
-  no-body out e = unwritten c out (sym (stop _ _ (ap (λ (m : Layout). bodyOk m c) (sym layout-is) ∙ e)))
+  no_body out e = unwritten c out (sym (stop _ _ (ap (λ (m : Layout). body_ok m c) (sym layout_is) ∙ e)))
 
   -- what the class decides, where the body has `size` bytes in front of the package
-  module _ (ok : bodyOk l c ≡ true) (size : ℕ) (sum : size ≡ frontSize l (length c.first) (length c.second) c.numbers (length c.blockData)) where
-    whole : size + length c.issuePackage ≡ length (bodyBytes l [] c)
-    whole = rw sum (body-length l c narrow ok)
+  module _ (ok : body_ok l c ≡ true) (size : ℕ) (sum : size ≡ front_size l (length c.first) (length c.second) c.numbers (length c.block_data)) where
+    whole : size + length c.issue_package ≡ length (body_bytes l [] c)
+    whole = rw sum (body_length l c narrow ok)
 
     -- a plain command has no package
-    plain-whole : k ≡ Plain → suc (suc (length (bodyBytes l [] c))) ≡ 2 + size
-    plain-whole e =
-        let none = plain-package c.code c.issuePackage (sym class-is ∙ e) in
-        let all = (ready l c narrow ok).all-package in
-        let empty : length c.issuePackage ≡ 0 = ap length (sym all ∙ ap (λ (m : Layout). packageBytes m.behind c.issuePackage) layout-is ∙ none) in
+    plain_whole : k ≡ Plain → suc (suc (length (body_bytes l [] c))) ≡ 2 + size
+    plain_whole e =
+        let none = plain_package c.code c.issue_package (sym class_is ∙ e) in
+        let all = (ready l c narrow ok).all_package in
+        let empty : length c.issue_package ≡ 0 = ap length (sym all ∙ ap (λ (m : Layout). package_bytes m.behind c.issue_package) layout_is ∙ none) in
         omega (arith, whole, empty)
 
     module _ (out : List ℕ) where
       -- a ground that the room gives is the writer's
       Ground : Class → ℕ → Type 0
-      Ground j g = ((g ≡ 22) × (fitsClass j c ≡ false)) ⊎ ((g ≡ 21) × (fitsClass j c ≡ true) × (length out < length (shortest j c)))
+      Ground j g = ((g ≡ 22) × (fits_class j c ≡ false)) ⊎ ((g ≡ 21) × (fits_class j c ≡ true) × (length out < length (shortest j c)))
 
-      frame-ground : (g : ℕ) → k ≡ Plain → frameRoom size (length out) ≡ Refused g → Ground Plain g
+      frame_ground : (g : ℕ) → k ≡ Plain → frame_room size (length out) ≡ Refused g → Ground Plain g
       unfolding Ground
-      frame-ground g e r = go (ltb 255 (2 + size)) (ltb (length out) (2 + size)) refl refl r
+      frame_ground g e r = go (ltb 255 (2 + size)) (ltb (length out) (2 + size)) refl refl r
         where
           go : (a b : Bool) → ltb 255 (2 + size) ≡ a → ltb (length out) (2 + size) ≡ b → cond a (Refused 22) (cond b (Refused 21) Enough) ≡ Refused g
-              → ((g ≡ 22) × (fitsClass Plain c ≡ false)) ⊎ ((g ≡ 21) × (fitsClass Plain c ≡ true) × (length out < length (shortest Plain c)))
-          go true b long small r = inl (cc, rw (frame-is, plain-whole e) (lt-leb (2 + size) 255 (ltb-true 255 (2 + size) long)))
+              → ((g ≡ 22) × (fits_class Plain c ≡ false)) ⊎ ((g ≡ 21) × (fits_class Plain c ≡ true) × (length out < length (shortest Plain c)))
+          go true b long small r = inl (cc, rw (frame_is, plain_whole e) (lt-leb (2 + size) 255 (ltb-true 255 (2 + size) long)))
           go false true long small r =
               inr
-              (cc, rw (frame-is, plain-whole e) (le-leb (2 + size) 255 (ltb-false 255 (2 + size) long)), rw (frame-is, plain-whole e) (ltb-true (length out) (2 + size) small))
-          go false false long small r = absurd (not-refused r)
+              (cc, rw (frame_is, plain_whole e) (le-leb (2 + size) 255 (ltb-false 255 (2 + size) long)), rw (frame_is, plain_whole e) (ltb-true (length out) (2 + size) small))
+          go false false long small r = absurd (not_refused r)
 
-      payload-ground : (g : ℕ) → payloadRoom size (length c.issuePackage) (length out) ≡ Refused g → Ground Secure g
+      payload_ground : (g : ℕ) → payload_room size (length c.issue_package) (length out) ≡ Refused g → Ground Secure g
       unfolding Ground
-      payload-ground g r = go (ltb (length out) (size + length c.issuePackage)) refl r
+      payload_ground g r = go (ltb (length out) (size + length c.issue_package)) refl r
         where
-          go : (b : Bool) → ltb (length out) (size + length c.issuePackage) ≡ b → cond b (Refused 21) Enough ≡ Refused g
-              → ((g ≡ 22) × (fitsClass Secure c ≡ false)) ⊎ ((g ≡ 21) × (fitsClass Secure c ≡ true) × (length out < length (shortest Secure c)))
-          go true small r = inr (cc, refl, rw (payload-is, sym whole) (ltb-true _ _ small))
-          go false small r = absurd (not-refused r)
+          go : (b : Bool) → ltb (length out) (size + length c.issue_package) ≡ b → cond b (Refused 21) Enough ≡ Refused g
+              → ((g ≡ 22) × (fits_class Secure c ≡ false)) ⊎ ((g ≡ 21) × (fits_class Secure c ≡ true) × (length out < length (shortest Secure c)))
+          go true small r = inr (cc, refl, rw (payload_is, sym whole) (ltb-true _ _ small))
+          go false small r = absurd (not_refused r)
 
-      ground : (j : Class) (g : ℕ) → k ≡ j → roomFor j size (length c.issuePackage) (length out) ≡ Refused g → Ground j g
+      ground : (j : Class) (g : ℕ) → k ≡ j → room_for j size (length c.issue_package) (length out) ≡ Refused g → Ground j g
       unfolding Ground
-      ground Plain g e r = frame-ground g e r
-      ground Secure g e r = payload-ground g r
+      ground Plain g e r = frame_ground g e r
+      ground Secure g e r = payload_ground g r
       ground Unknown g e r = inl (cc, refl)
 
-      enough : (j : Class) → k ≡ j → roomFor j size (length c.issuePackage) (length out) ≡ Enough
-          → (fitsClass j c ≡ true) × (length (shortest j c) ≤ length out) × (shortest j c ≡ headBytes j c.code size ++ bodyBytes l [] c)
+      enough : (j : Class) → k ≡ j → room_for j size (length c.issue_package) (length out) ≡ Enough
+          → (fits_class j c ≡ true) × (length (shortest j c) ≤ length out) × (shortest j c ≡ head_bytes j c.code size ++ body_bytes l [] c)
       enough Plain e r =
-          let tests = enough-tests (ltb 255 (2 + size)) (ltb (length out) (2 + size)) r in
-          rw (frame-is, plain-whole e)
+          let tests = enough_tests (ltb 255 (2 + size)) (ltb (length out) (2 + size)) r in
+          rw (frame_is, plain_whole e)
           (le-leb (2 + size) 255 (ltb-false 255 (2 + size) tests.0), ltb-false (length out) (2 + size) tests.1, refl)
       enough Secure e r =
-          let room = ltb-false (length out) (size + length c.issuePackage) (enough-test (ltb (length out) (size + length c.issuePackage)) r) in
-          rw payload-is (refl, omega (arith, whole, room), refl)
-      enough Unknown e r = absurd (not-enough r)
+          let room = ltb-false (length out) (size + length c.issue_package) (enough_test (ltb (length out) (size + length c.issue_package)) r) in
+          rw payload_is (refl, omega (arith, whole, room), refl)
+      enough Unknown e r = absurd (not_enough r)
 
-      may : (b : Bool) → fitsClass k c ≡ b → writable c ≡ b
+      may : (b : Bool) → fits_class k c ≡ b → writable c ≡ b
       unfolding writable
-      may b e = sym (pass _ _ (ap (λ (m : Layout). bodyOk m c) (sym layout-is) ∙ ok)) ∙ ap (λ (j : Class). fitsClass j c) (sym class-is) ∙ e
+      may b e = sym (pass _ _ (ap (λ (m : Layout). body_ok m c) (sym layout_is) ∙ ok)) ∙ ap (λ (j : Class). fits_class j c) (sym class_is) ∙ e
 
-      pub no-room : (g : ℕ) → roomFor k size (length c.issuePackage) (length out) ≡ Refused g → outcome (refused g (some c.code)) out ≡ writing c out
+      pub no_room : (g : ℕ) → room_for k size (length c.issue_package) (length out) ≡ Refused g → outcome (refused g (some c.code)) out ≡ writing c out
       unfolding Ground
-      no-room g r = ⊎_elim too-long too-small (ground k g refl r)
+      no_room g r = ⊎_elim does_not_fit too_small (ground k g refl r)
         where
-          too-long : (g ≡ 22) × (fitsClass k c ≡ false) → outcome (refused g (some c.code)) out ≡ writing c out
-          too-long h = rw h.0 (unwritten c out (may false h.1))
+          does_not_fit : (g ≡ 22) × (fits_class k c ≡ false) → outcome (refused g (some c.code)) out ≡ writing c out
+          does_not_fit h = rw h.0 (unwritten c out (may false h.1))
 
-          too-small : (g ≡ 21) × (fitsClass k c ≡ true) × (length out < length (shortest k c)) → outcome (refused g (some c.code)) out ≡ writing c out
-          too-small h = rw h.0 (buffer-small c out (shortest k c) (may true h.1) (ap (λ (j : Class). shortest j c) (sym class-is)) h.2)
+          too_small : (g ≡ 21) × (fits_class k c ≡ true) × (length out < length (shortest k c)) → outcome (refused g (some c.code)) out ≡ writing c out
+          too_small h = rw h.0 (buffer_small c out (shortest k c) (may true h.1) (ap (λ (j : Class). shortest j c) (sym class_is)) h.2)
 
-      pub all-stored : roomFor k size (length c.issuePackage) (length out) ≡ Enough → (after : List ℕ) (n : ℕ)
-          → buffer after n ≡ put (buffer out 0) (headBytes k c.code size ++ bodyBytes l [] c) → outcome (wrote n) after ≡ writing c out
-      all-stored r after n e =
+      pub all_stored : room_for k size (length c.issue_package) (length out) ≡ Enough → (after : List ℕ) (n : ℕ)
+          → buffer after n ≡ put (buffer out 0) (head_bytes k c.code size ++ body_bytes l [] c) → outcome (wrote n) after ≡ writing c out
+      all_stored r after n e =
           let h = enough k refl r in
-          stored-whole c out (shortest k c) (may true h.0) (ap (λ (j : Class). shortest j c) (sym class-is)) after n h.1 (e ∙ ap (put (buffer out 0)) (sym h.2))
+          stored_whole c out (shortest k c) (may true h.0) (ap (λ (j : Class). shortest j c) (sym class_is)) after n h.1 (e ∙ ap (put (buffer out 0)) (sym h.2))
 
 -- the length byte of a frame that there is room for
-pub one-byte : (k : Class) (size pack room : ℕ) → roomFor k size pack room ≡ Enough → k ≡ Plain → 2 + size ≤ 255
-one-byte Plain size pack room r e = ltb-false 255 (2 + size) (enough-tests (ltb 255 (2 + size)) (ltb room (2 + size)) r).0
-one-byte Secure size pack room r e = absurd (not-plain e)
-one-byte Unknown size pack room r e = absurd (not-enough r)
+pub one_byte : (k : Class) (size pack room : ℕ) → room_for k size pack room ≡ Enough → k ≡ Plain → 2 + size ≤ 255
+one_byte Plain size pack room r e = ltb-false 255 (2 + size) (enough_tests (ltb 255 (2 + size)) (ltb room (2 + size)) r).0
+one_byte Secure size pack room r e = absurd (not_plain e)
+one_byte Unknown size pack room r e = absurd (not_enough r)

@@ -13,17 +13,17 @@ use lib.Dec.{ltb}
 use borrow.Author.Tests.{ltb-true, ltb-false, lt-ltb, le-ltb}
 use Rattle.felica_format.specs.Basic.{◌and◌, Bytes}
 use Rattle.felica_format.specs.Command.{Command}
-use Rattle.felica_format.specs.Layout.{layoutOf, layoutIn, has, plainRows}
+use Rattle.felica_format.specs.Layout.{layout_of, layout_in, has, plain_rows}
 use Rattle.felica_format.specs.Read.{gives}
-use Rattle.felica_format.specs.Write.{frameOf, secureOf}
-use Rattle.felica_format.specs.Writable.{idmOk, selectorOk, codesOk, sameLength, bodyOk, writable, written}
+use Rattle.felica_format.specs.Write.{frame_of, secure_of}
+use Rattle.felica_format.specs.Writable.{idm_ok, selector_ok, codes_ok, same_length, body_ok, writable, written}
 use Rattle.felica_format.specs.Demand3.{FrameGives, PayloadGives, HasFrame, HasPayload}
-use Rattle.felica_format.proofs.Demand3.{frames-are-choices, payloads-are-choices, short-frame-accepted, short-payload-accepted, other-frames-longer}
-use Rattle.felica_format.proofs.Demand3.{other-payloads-longer, short-frame-written, short-payload-written, unwritable-exactly, frame-read-back}
-use Rattle.felica_format.proofs.Demand3.{payload-read-back, two-frames, two-payloads, frame-long-counted, payload-long-counted}
-use Rattle.felica_format.proofs.Steps.{not-given}
+use Rattle.felica_format.proofs.Demand3.{frames_are_choices, payloads_are_choices, short_frame_accepted, short_payload_accepted, other_frames_longer}
+use Rattle.felica_format.proofs.Demand3.{other_payloads_longer, short_frame_written, short_payload_written, unwritable_exactly, frame_read_back}
+use Rattle.felica_format.proofs.Demand3.{payload_read_back, two_frames, two_payloads, frame_long_counted, payload_long_counted}
+use Rattle.felica_format.proofs.Steps.{not_given}
 use Rattle.felica_command.specs.Meaning as parser
-use Rattle.felica_command.specs.Meaning.{answerIs}
+use Rattle.felica_command.specs.Meaning.{answer_is}
 use Rattle.felica_command.specs.declared.command.Refusal.TheVariants.{Number, OfCommand}
 use Rattle.felica_command.specs.declared.command.Answer.{Answer as Parsing}
 use Rattle.felica_command.specs.declared.command.Answer.TheVariants.{Command as AnswerCommand, Refused as AnswerRefused}
@@ -38,20 +38,20 @@ use Rattle.felica_write.specs.Rules.{ShortestPayload, FramesReadAreChoices, Payl
 use Rattle.felica_write.specs.Rules.{FrameLongTold, PayloadLongTold}
 
 -- a result is settled by what it says
-meaning-one : (r t : Written) → meaning r ≡ meaning t → r ≡ t
-meaning-one (Length n) (Length m) e = cc
-meaning-one (Length n) (Refused (Number m)) e = cc
-meaning-one (Length n) (Refused (OfCommand m k)) e = cc
-meaning-one (Refused (Number n)) (Length m) e = cc
-meaning-one (Refused (Number n)) (Refused (Number m)) e = cc
-meaning-one (Refused (Number n)) (Refused (OfCommand m k)) e = cc
-meaning-one (Refused (OfCommand n j)) (Length m) e = cc
-meaning-one (Refused (OfCommand n j)) (Refused (Number m)) e = cc
-meaning-one (Refused (OfCommand n j)) (Refused (OfCommand m k)) e = cc
+meaning_one : (r t : Written) → meaning r ≡ meaning t → r ≡ t
+meaning_one (Length n) (Length m) e = cc
+meaning_one (Length n) (Refused (Number m)) e = cc
+meaning_one (Length n) (Refused (OfCommand m k)) e = cc
+meaning_one (Refused (Number n)) (Length m) e = cc
+meaning_one (Refused (Number n)) (Refused (Number m)) e = cc
+meaning_one (Refused (Number n)) (Refused (OfCommand m k)) e = cc
+meaning_one (Refused (OfCommand n j)) (Length m) e = cc
+meaning_one (Refused (OfCommand n j)) (Refused (Number m)) e = cc
+meaning_one (Refused (OfCommand n j)) (Refused (OfCommand m k)) e = cc
 
-pub one-writer-account : OneWriterAccount
-one-writer-account c b r t a e p q =
-    (meaning-one r t (ap (λ o. o.answer) (p ∙ sym q)), ap (λ o. o.buffer) (p ∙ sym q))
+pub one_writer_account : OneWriterAccount
+one_writer_account c b r t a e p q =
+    (meaning_one r t (ap (λ o. o.answer) (p ∙ sym q)), ap (λ o. o.buffer) (p ∙ sym q))
 
 -- the bytes are written exactly where a buffer holds them
 record Stored (c : Command) (b : List ℕ) (n : ℕ) (a : List ℕ) : Type 0 where
@@ -61,62 +61,62 @@ record Stored (c : Command) (b : List ℕ) (n : ℕ) (a : List ℕ) : Type 0 whe
   size : n ≡ length bytes
   held : a ≡ bytes ++ drop (length bytes) b
 
-wrote-not : {n m : ℕ} {k : Option ℕ} → wrote n ≡ refused m k → ⊥
-wrote-not e = let z : ◌≡◌ {A = ℕ} 0 1 = cc in omega arith
+wrote_not : {n m : ℕ} {k : Option ℕ} → wrote n ≡ refused m k → ⊥
+wrote_not e = let z : ◌≡◌ {A = ℕ} 0 1 = cc in omega arith
 
-stored-of : (c : Command) (b : List ℕ) (n : ℕ) (a : List ℕ) → WriterAccount c b (Length n) a → Stored c b n a
+stored_of : (c : Command) (b : List ℕ) (n : ℕ) (a : List ℕ) → WriterAccount c b (Length n) a → Stored c b n a
 unfolding writing
-stored-of c b n a e = go (written c) refl e
+stored_of c b n a e = go (written c) refl e
   where
     fit : (s : List ℕ) (small : Bool) → ltb (length b) (length s) ≡ small → written c ≡ some s → outcome (wrote n) a ≡ stored small c.code s b → Stored c b n a
-    fit s true q w e = absurd (wrote-not (ap (λ o. o.answer) e))
+    fit s true q w e = absurd (wrote_not (ap (λ o. o.answer) e))
     fit s false q w e =
         let answer = ap (λ o. o.answer) e in
         record { bytes = s; is = w; room = ltb-false (length b) (length s) q; size = cc; held = ap (λ o. o.buffer) e }
 
     go : (w : Option (List ℕ)) → written c ≡ w → outcome (wrote n) a ≡ store c.code w b → Stored c b n a
-    go none q e = absurd (wrote-not (ap (λ o. o.answer) e))
+    go none q e = absurd (wrote_not (ap (λ o. o.answer) e))
     go (some s) q e = fit s (ltb (length b) (length s)) refl q e
 
-pub refused-untouched : RefusedUntouched
+pub refused_untouched : RefusedUntouched
 unfolding writing
-refused-untouched c b r a n code e said = go (written c) (ap (λ o. o.buffer) e) (sym said ∙ ap (λ o. o.answer) e)
+refused_untouched c b r a n code e said = go (written c) (ap (λ o. o.buffer) e) (sym said ∙ ap (λ o. o.answer) e)
   where
     fit : (s : List ℕ) (small : Bool) → a ≡ (stored small c.code s b).buffer → refused n code ≡ (stored small c.code s b).answer → a ≡ b
     fit s true held answer = held
-    fit s false held answer = absurd (wrote-not (sym answer))
+    fit s false held answer = absurd (wrote_not (sym answer))
 
     go : (w : Option (List ℕ)) → a ≡ (store c.code w b).buffer → refused n code ≡ (store c.code w b).answer → a ≡ b
     go none held answer = held
     go (some s) held answer = fit s (ltb (length b) (length s)) held answer
 
-pub two-refusals : TwoRefusals
+pub two_refusals : TwoRefusals
 unfolding writing
-two-refusals c b r a n code e said = go (written c) (sym said ∙ ap (λ o. o.answer) e)
+two_refusals c b r a n code e said = go (written c) (sym said ∙ ap (λ o. o.answer) e)
   where
     fit : (s : List ℕ) (small : Bool) → refused n code ≡ (stored small c.code s b).answer → (code ≡ some c.code) × ((n ≡ 21) ⊎ (n ≡ 22))
     fit s true answer = (cc, inl cc)
-    fit s false answer = absurd (wrote-not (sym answer))
+    fit s false answer = absurd (wrote_not (sym answer))
 
     go : (w : Option (List ℕ)) → refused n code ≡ (store c.code w b).answer → (code ≡ some c.code) × ((n ≡ 21) ⊎ (n ≡ 22))
     go none answer = (cc, inr cc)
     go (some s) answer = fit s (ltb (length b) (length s)) answer
 
-not-both : {j k : Option ℕ} → refused 21 j ≡ refused 22 k → ⊥
-not-both e = let z : ◌≡◌ {A = ℕ} 21 22 = cc in omega arith
+not_both : {j k : Option ℕ} → refused 21 j ≡ refused 22 k → ⊥
+not_both e = let z : ◌≡◌ {A = ℕ} 21 22 = cc in omega arith
 
-pub twenty-one-exactly : TwentyOneExactly
+pub twenty_one_exactly : TwentyOneExactly
 unfolding writing
-twenty-one-exactly c b r a e = (λ said. there (written c) refl (sym said ∙ ap (λ o. o.answer) e), λ (s, w, small). back s w small)
+twenty_one_exactly c b r a e = (λ said. there (written c) refl (sym said ∙ ap (λ o. o.answer) e), λ (s, w, small). back s w small)
   where
     short : (s : List ℕ) (small : Bool) → ltb (length b) (length s) ≡ small → written c ≡ some s
         → refused 21 (some c.code) ≡ (stored small c.code s b).answer → (t : List ℕ) × (written c ≡ some t) × (length b < length t)
     short s true q w said = (s, w, ltb-true (length b) (length s) q)
-    short s false q w said = absurd (wrote-not (sym said))
+    short s false q w said = absurd (wrote_not (sym said))
 
     there : (w : Option (List ℕ)) → written c ≡ w → refused 21 (some c.code) ≡ (store c.code w b).answer
         → (t : List ℕ) × (written c ≡ some t) × (length b < length t)
-    there none q said = absurd (not-both said)
+    there none q said = absurd (not_both said)
     there (some s) q said = short s (ltb (length b) (length s)) refl q said
 
     back : (s : List ℕ) → written c ≡ some s → length b < length s → meaning r ≡ refused 21 (some c.code)
@@ -125,59 +125,59 @@ twenty-one-exactly c b r a e = (λ said. there (written c) refl (sym said ∙ ap
         ∙ ap (λ (t : Bool). (stored t c.code s b).answer) (lt-ltb (length b) (length s) small)
 
 -- of the bytes that the definition writes
-twenty-one-of : (c : Command) (s b : List ℕ) (r : Written) (a : List ℕ) → written c ≡ some s → WriterAccount c b r a
+twenty_one_of : (c : Command) (s b : List ℕ) (r : Written) (a : List ℕ) → written c ≡ some s → WriterAccount c b r a
     → (meaning r ≡ refused 21 (some c.code)) ↔ (length b < length s)
-twenty-one-of c s b r a w e =
-    let exactly = twenty-one-exactly c b r a e in
+twenty_one_of c s b r a w e =
+    let exactly = twenty_one_exactly c b r a e in
     (λ said. same (exactly.0 said), λ small. exactly.1 (s, w, small))
   where
     same : (t : List ℕ) × (written c ≡ some t) × (length b < length t) → length b < length s
     same (t, v, small) = let is : t ≡ s = cc in subst (λ (u : List ℕ). length b < length u) is small
 
-pub frame-twenty-one : FrameTwentyOne
-frame-twenty-one c b r a has e = twenty-one-of c (frameOf [] c) b r a (short-frame-written c has) e
+pub frame_twenty_one : FrameTwentyOne
+frame_twenty_one c b r a has e = twenty_one_of c (frame_of [] c) b r a (short_frame_written c has) e
 
-pub payload-twenty-one : PayloadTwentyOne
-payload-twenty-one c b r a has e = twenty-one-of c (secureOf [] c) b r a (short-payload-written c has) e
+pub payload_twenty_one : PayloadTwentyOne
+payload_twenty_one c b r a has e = twenty_one_of c (secure_of [] c) b r a (short_payload_written c has) e
 
-pub twenty-two-exactly : TwentyTwoExactly
+pub twenty_two_exactly : TwentyTwoExactly
 unfolding writing
-twenty-two-exactly c b r a e = (
-  λ said. (unwritable-exactly c).0 (there (written c) refl (sym said ∙ ap (λ o. o.answer) e)),
-  λ neither. ap (λ o. o.answer) e ∙ ap (λ x. (store c.code x b).answer) ((unwritable-exactly c).1 neither),
+twenty_two_exactly c b r a e = (
+  λ said. (unwritable_exactly c).0 (there (written c) refl (sym said ∙ ap (λ o. o.answer) e)),
+  λ neither. ap (λ o. o.answer) e ∙ ap (λ x. (store c.code x b).answer) ((unwritable_exactly c).1 neither),
 )
   where
     short : (s : List ℕ) (small : Bool) → refused 22 (some c.code) ≡ (stored small c.code s b).answer → ⊥
-    short s true said = not-both (sym said)
-    short s false said = wrote-not (sym said)
+    short s true said = not_both (sym said)
+    short s false said = wrote_not (sym said)
 
     there : (w : Option (List ℕ)) → written c ≡ w → refused 22 (some c.code) ≡ (store c.code w b).answer → written c ≡ none
     there none q said = q
     there (some s) q said = absurd (short s (ltb (length b) (length s)) said)
 
 -- what the parser reads is what the bytes give, and the other way round
-frame-gives : (c : Command) (s : List ℕ) (p : Parsed) → Bytes s → FrameParsed s p → FrameIs s p c → FrameGives s c
-frame-gives c s p small parsed given = (small, given.0, sym parsed.0 ∙ given.1)
+frame_gives : (c : Command) (s : List ℕ) (p : Parsed) → Bytes s → FrameParsed s p → FrameIs s p c → FrameGives s c
+frame_gives c s p small parsed given = (small, given.0, sym parsed.0 ∙ given.1)
 
-payload-gives : (c : Command) (code : ℕ) (s : List ℕ) (p : Parsed) → Bytes s → PayloadParsed code s p → PayloadIs s p c → PayloadGives code s c
-payload-gives c code s p small parsed given = (small, given.0, sym parsed.0 ∙ given.1)
+payload_gives : (c : Command) (code : ℕ) (s : List ℕ) (p : Parsed) → Bytes s → PayloadParsed code s p → PayloadIs s p c → PayloadGives code s c
+payload_gives c code s p small parsed given = (small, given.0, sym parsed.0 ∙ given.1)
 
-frame-is : (c : Command) (s : List ℕ) (p : Parsed) → FrameParsed s p → FrameGives s c → FrameIs s p c
-frame-is c s p parsed gave = (gave.1, parsed.0 ∙ gave.2)
+frame_is : (c : Command) (s : List ℕ) (p : Parsed) → FrameParsed s p → FrameGives s c → FrameIs s p c
+frame_is c s p parsed gave = (gave.1, parsed.0 ∙ gave.2)
 
-payload-is : (c : Command) (code : ℕ) (s : List ℕ) (p : Parsed) → PayloadParsed code s p → PayloadGives code s c → PayloadIs s p c
-payload-is c code s p parsed gave = (gave.1, parsed.0 ∙ gave.2)
+payload_is : (c : Command) (code : ℕ) (s : List ℕ) (p : Parsed) → PayloadParsed code s p → PayloadGives code s c → PayloadIs s p c
+payload_is c code s p parsed gave = (gave.1, parsed.0 ∙ gave.2)
 
-pub unwritable-unread : UnwritableUnread
-unwritable-unread c b r a e said s p small =
-    let neither = (twenty-two-exactly c b r a e).0 said in (
-      λ parsed given. neither.0 (s, frame-gives c s p small parsed given),
-      λ code parsed given. neither.1 (code, s, payload-gives c code s p small parsed given),
+pub unwritable_unread : UnwritableUnread
+unwritable_unread c b r a e said s p small =
+    let neither = (twenty_two_exactly c b r a e).0 said in (
+      λ parsed given. neither.0 (s, frame_gives c s p small parsed given),
+      λ code parsed given. neither.1 (code, s, payload_gives c code s p small parsed given),
     )
 
-pub behind-kept : BehindKept
-behind-kept c b n a e =
-    let h = stored-of c b n a e in
+pub behind_kept : BehindKept
+behind_kept c b n a e =
+    let h = stored_of c b n a e in
     let rest = drop-append_seam h.bytes (drop (length h.bytes) b) in (
       rw h.size h.room,
       ap (λ (k : ℕ). drop k a) h.size ∙ ap (drop (length h.bytes)) h.held ∙ rest ∙ ap (λ (k : ℕ). drop k b) (sym h.size),
@@ -187,73 +187,73 @@ behind-kept c b n a e =
 front : (c : Command) (b : List ℕ) (n : ℕ) (a : List ℕ) (h : Stored c b n a) → take n a ≡ h.bytes
 front c b n a h = rw (h.size, h.held) (take-append_seam h.bytes (drop (length h.bytes) b))
 
-pub written-frame-read : WrittenFrameRead
-written-frame-read c b n a p plain e parsed =
-    let h = stored-of c b n a e in
-    let back = (frame-read-back c h.bytes plain h.is).1 in
-    frame-is c (take n a) p parsed (subst (λ (s : List ℕ). FrameGives s c) (sym (front c b n a h)) back)
+pub written_frame_read : WrittenFrameRead
+written_frame_read c b n a p plain e parsed =
+    let h = stored_of c b n a e in
+    let back = (frame_read_back c h.bytes plain h.is).1 in
+    frame_is c (take n a) p parsed (subst (λ (s : List ℕ). FrameGives s c) (sym (front c b n a h)) back)
 
-pub written-payload-read : WrittenPayloadRead
-written-payload-read c b n a p secure e parsed =
-    let h = stored-of c b n a e in
-    let back = payload-read-back c h.bytes secure h.is in
-    payload-is c c.code (take n a) p parsed (subst (λ (s : List ℕ). PayloadGives c.code s c) (sym (front c b n a h)) back)
+pub written_payload_read : WrittenPayloadRead
+written_payload_read c b n a p secure e parsed =
+    let h = stored_of c b n a e in
+    let back = payload_read_back c h.bytes secure h.is in
+    payload_is c c.code (take n a) p parsed (subst (λ (s : List ℕ). PayloadGives c.code s c) (sym (front c b n a h)) back)
 
 -- with room for it, the writer writes the bytes of the definition
-written-whole : (c : Command) (s b : List ℕ) (r : Written) (a : List ℕ) → written c ≡ some s → length s ≤ length b → WriterAccount c b r a
+written_whole : (c : Command) (s b : List ℕ) (r : Written) (a : List ℕ) → written c ≡ some s → length s ≤ length b → WriterAccount c b r a
     → (r ≡ Length (length s)) × (a ≡ s ++ drop (length s) b)
 unfolding writing
-written-whole c s b r a w room e =
+written_whole c s b r a w room e =
     let is = e ∙ ap (λ x. store c.code x b) w ∙ ap (λ (t : Bool). stored t c.code s b) (le-ltb (length b) (length s) room) in
-    (meaning-one r (Length (length s)) (ap (λ o. o.answer) is), ap (λ o. o.buffer) is)
+    (meaning_one r (Length (length s)) (ap (λ o. o.answer) is), ap (λ o. o.buffer) is)
 
-pub shortest-frame : ShortestFrame
-shortest-frame c s p b r a small parsed given room e =
-    let accepted = frame-gives c s p small parsed given in
+pub shortest_frame : ShortestFrame
+shortest_frame c s p b r a small parsed given room e =
+    let accepted = frame_gives c s p small parsed given in
     let has : HasFrame c = (s, accepted) in
-    let whole = written-whole c (frameOf [] c) b r a (short-frame-written c has) room e in
-    (whole.0, whole.1, λ q parsed'. frame-is c (frameOf [] c) q parsed' (short-frame-accepted c has), other-frames-longer c s accepted)
+    let whole = written_whole c (frame_of [] c) b r a (short_frame_written c has) room e in
+    (whole.0, whole.1, λ q parsed'. frame_is c (frame_of [] c) q parsed' (short_frame_accepted c has), other_frames_longer c s accepted)
 
-pub shortest-payload : ShortestPayload
-shortest-payload c code s p b r a small parsed given room e =
-    let accepted = payload-gives c code s p small parsed given in
+pub shortest_payload : ShortestPayload
+shortest_payload c code s p b r a small parsed given room e =
+    let accepted = payload_gives c code s p small parsed given in
     let has : HasPayload c = (code, s, accepted) in
-    let whole = written-whole c (secureOf [] c) b r a (short-payload-written c has) room e in
-    (whole.0, whole.1, λ q parsed'. payload-is c c.code (secureOf [] c) q parsed' (short-payload-accepted c has), other-payloads-longer c code s accepted)
+    let whole = written_whole c (secure_of [] c) b r a (short_payload_written c has) room e in
+    (whole.0, whole.1, λ q parsed'. payload_is c c.code (secure_of [] c) q parsed' (short_payload_accepted c has), other_payloads_longer c code s accepted)
 
-pub frames-read-are-choices : FramesReadAreChoices
-frames-read-are-choices c has s p small parsed =
-    let exactly = frames-are-choices c has s in
-    (λ given. exactly.0 (frame-gives c s p small parsed given), λ choice. frame-is c s p parsed (exactly.1 choice))
+pub frames_read_are_choices : FramesReadAreChoices
+frames_read_are_choices c has s p small parsed =
+    let exactly = frames_are_choices c has s in
+    (λ given. exactly.0 (frame_gives c s p small parsed given), λ choice. frame_is c s p parsed (exactly.1 choice))
 
-pub payloads-read-are-choices : PayloadsReadAreChoices
-payloads-read-are-choices c has code s p small parsed =
-    let exactly = payloads-are-choices c has code s in
-    (λ given. exactly.0 (payload-gives c code s p small parsed given), λ choice. payload-is c code s p parsed (exactly.1 choice))
+pub payloads_read_are_choices : PayloadsReadAreChoices
+payloads_read_are_choices c has code s p small parsed =
+    let exactly = payloads_are_choices c has code s in
+    (λ given. exactly.0 (payload_gives c code s p small parsed given), λ choice. payload_is c code s p parsed (exactly.1 choice))
 
-pub two-frames-read : TwoFramesRead
-two-frames-read c s t p q small small' parsed given parsed' given' =
-    two-frames c s t (frame-gives c s p small parsed given) (frame-gives c t q small' parsed' given')
+pub two_frames_read : TwoFramesRead
+two_frames_read c s t p q small small' parsed given parsed' given' =
+    two_frames c s t (frame_gives c s p small parsed given) (frame_gives c t q small' parsed' given')
 
-pub two-payloads-read : TwoPayloadsRead
-two-payloads-read c s t p q small small' parsed given parsed' given' =
-    two-payloads c s t (payload-gives c c.code s p small parsed given) (payload-gives c c.code t q small' parsed' given')
+pub two_payloads_read : TwoPayloadsRead
+two_payloads_read c s t p q small small' parsed given parsed' given' =
+    two_payloads c s t (payload_gives c c.code s p small parsed given) (payload_gives c c.code t q small' parsed' given')
 
 -- the count that a result tells is the count that goes with its command
-answer-long : (s idm challenge : List ℕ) (long n : ℕ) (c : Command) (a : Parsing) → answerIs s idm challenge long a ≡ gives c n → long ≡ n
-answer-long s idm challenge long n c (AnswerCommand k) e = cc
-answer-long s idm challenge long n c (AnswerRefused (Number m)) e = absurd (not-given e)
-answer-long s idm challenge long n c (AnswerRefused (OfCommand m k)) e = absurd (not-given e)
+answer_long : (s idm challenge : List ℕ) (long n : ℕ) (c : Command) (a : Parsing) → answer_is s idm challenge long a ≡ gives c n → long ≡ n
+answer_long s idm challenge long n c (AnswerCommand k) e = cc
+answer_long s idm challenge long n c (AnswerRefused (Number m)) e = absurd (not_given e)
+answer_long s idm challenge long n c (AnswerRefused (OfCommand m k)) e = absurd (not_given e)
 
-long-told : (s : List ℕ) (p : Parsed) (c : Command) (n : ℕ) → parser.meaning s p ≡ gives c n → p.long ≡ n
-long-told s p c n e = answer-long s p.idm p.challenge p.long n c p.answer e
+long_told : (s : List ℕ) (p : Parsed) (c : Command) (n : ℕ) → parser.meaning s p ≡ gives c n → p.long ≡ n
+long_told s p c n e = answer_long s p.idm p.challenge p.long n c p.answer e
 
-pub frame-long-told : FrameLongTold
-frame-long-told c has forms p short parsed = long-told (drop 1 (frameOf forms c)) p c _ (parsed.0 ∙ frame-long-counted c has forms short)
+pub frame_long_told : FrameLongTold
+frame_long_told c has forms p short parsed = long_told (drop 1 (frame_of forms c)) p c _ (parsed.0 ∙ frame_long_counted c has forms short)
 
-pub payload-long-told : PayloadLongTold
-payload-long-told c has forms tail p follows parsed = long-told (secureOf forms c ++ tail) p c _ (parsed.0 ∙ payload-long-counted c has forms tail follows)
+pub payload_long_told : PayloadLongTold
+payload_long_told c has forms tail p follows parsed = long_told (secure_of forms c ++ tail) p c _ (parsed.0 ∙ payload_long_counted c has forms tail follows)
 
-pub number-alone : NumberAlone
-unfolding writing written writable bodyOk idmOk selectorOk codesOk sameLength layoutOf layoutIn has plainRows ◌and◌
-number-alone n b r a e = meaning-one r (refusal 22 0x04) (ap (λ o. o.answer) e)
+pub number_alone : NumberAlone
+unfolding writing written writable body_ok idm_ok selector_ok codes_ok same_length layout_of layout_in has plain_rows ◌and◌
+number_alone n b r a e = meaning_one r (refusal 22 0x04) (ap (λ o. o.answer) e)

@@ -5,10 +5,10 @@ use Rattle.std.specs.Prelude.{ℕ, ◌≤◌, ◌<◌, ◌≡◌, ◌⊎◌, ◌
 use Rattle.std.proofs.Math.Option.{Option, some}
 use Rattle.felica_format.specs.declared.classes.Class.TheVariants.{Plain, Secure}
 use Rattle.felica_format.specs.Basic.{Bytes, zeros}
-use Rattle.felica_format.specs.Command.{Command, elementsOf}
-use Rattle.felica_format.specs.Layout.{classOf}
-use Rattle.felica_format.specs.Read.{gives, readFrame, readSecure}
-use Rattle.felica_format.specs.Write.{Forms, longIn, frameOf, secureOf}
+use Rattle.felica_format.specs.Command.{Command, elements_of}
+use Rattle.felica_format.specs.Layout.{class_of}
+use Rattle.felica_format.specs.Read.{gives, read_frame, read_secure}
+use Rattle.felica_format.specs.Write.{Forms, long_in, frame_of, secure_of}
 use Rattle.felica_format.specs.Writable.{written}
 use Rattle.felica_format.specs.Demand3.{HasFrame, HasPayload, FrameChoice, PayloadChoice, MayFollow, Around}
 use Rattle.felica_command.specs.Meaning as parser
@@ -24,10 +24,10 @@ WriterAccount c b r a = outcome (meaning r) a ≡ writing c b
 
 -- The contract of the parser: p is its result for the frame s; for the payload s of a secure code.
 abbrev pub FrameParsed : List ℕ → Parsed → Type 0
-FrameParsed s p = Account (drop 1 s) 1 (readFrame s) p
+FrameParsed s p = Account (drop 1 s) 1 (read_frame s) p
 
 abbrev pub PayloadParsed : ℕ → List ℕ → Parsed → Type 0
-PayloadParsed code s p = Account s 0 (readSecure code s) p
+PayloadParsed code s p = Account s 0 (read_secure code s) p
 
 -- and p is the command c; how many of its elements were long is no part of the command
 abbrev pub FrameIs : List ℕ → Parsed → Command → Type 0
@@ -54,12 +54,12 @@ TwoRefusals =
 abbrev pub FrameTwentyOne : Type 0
 FrameTwentyOne =
     (c : Command) (b : List ℕ) (r : Written) (a : List ℕ) → HasFrame c → WriterAccount c b r a
-    → (meaning r ≡ refused 21 (some c.code)) ↔ (length b < length (frameOf [] c))
+    → (meaning r ≡ refused 21 (some c.code)) ↔ (length b < length (frame_of [] c))
 
 abbrev pub PayloadTwentyOne : Type 0
 PayloadTwentyOne =
     (c : Command) (b : List ℕ) (r : Written) (a : List ℕ) → HasPayload c → WriterAccount c b r a
-    → (meaning r ≡ refused 21 (some c.code)) ↔ (length b < length (secureOf [] c))
+    → (meaning r ≡ refused 21 (some c.code)) ↔ (length b < length (secure_of [] c))
 
 abbrev pub TwentyOneExactly : Type 0
 TwentyOneExactly =
@@ -86,12 +86,12 @@ BehindKept = (c : Command) (b : List ℕ) (n : ℕ) (a : List ℕ) → WriterAcc
 -- "What the writer writes, the parser reads as the command given."
 abbrev pub WrittenFrameRead : Type 0
 WrittenFrameRead =
-    (c : Command) (b : List ℕ) (n : ℕ) (a : List ℕ) (p : Parsed) → classOf c.code ≡ Plain → WriterAccount c b (Length n) a
+    (c : Command) (b : List ℕ) (n : ℕ) (a : List ℕ) (p : Parsed) → class_of c.code ≡ Plain → WriterAccount c b (Length n) a
     → FrameParsed (take n a) p → FrameIs (take n a) p c
 
 abbrev pub WrittenPayloadRead : Type 0
 WrittenPayloadRead =
-    (c : Command) (b : List ℕ) (n : ℕ) (a : List ℕ) (p : Parsed) → classOf c.code ≡ Secure → WriterAccount c b (Length n) a
+    (c : Command) (b : List ℕ) (n : ℕ) (a : List ℕ) (p : Parsed) → class_of c.code ≡ Secure → WriterAccount c b (Length n) a
     → PayloadParsed c.code (take n a) p → PayloadIs (take n a) p c
 
 -- "the all-short one is among them, every other has more bytes, and the writer writes it byte for byte": where the parser reads c in a frame s, the writer
@@ -99,18 +99,18 @@ WrittenPayloadRead =
 abbrev pub ShortestFrame : Type 0
 ShortestFrame =
     (c : Command) (s : List ℕ) (p : Parsed) (b : List ℕ) (r : Written) (a : List ℕ) → Bytes s → FrameParsed s p → FrameIs s p c
-    → length (frameOf [] c) ≤ length b → WriterAccount c b r a
-    → (r ≡ Length (length (frameOf [] c))) × (a ≡ frameOf [] c ++ drop (length (frameOf [] c)) b)
-    × ((q : Parsed) → FrameParsed (frameOf [] c) q → FrameIs (frameOf [] c) q c)
-    × (s ≢ frameOf [] c → length (frameOf [] c) < length s)
+    → length (frame_of [] c) ≤ length b → WriterAccount c b r a
+    → (r ≡ Length (length (frame_of [] c))) × (a ≡ frame_of [] c ++ drop (length (frame_of [] c)) b)
+    × ((q : Parsed) → FrameParsed (frame_of [] c) q → FrameIs (frame_of [] c) q c)
+    × (s ≢ frame_of [] c → length (frame_of [] c) < length s)
 
 abbrev pub ShortestPayload : Type 0
 ShortestPayload =
     (c : Command) (code : ℕ) (s : List ℕ) (p : Parsed) (b : List ℕ) (r : Written) (a : List ℕ) → Bytes s → PayloadParsed code s p → PayloadIs s p c
-    → length (secureOf [] c) ≤ length b → WriterAccount c b r a
-    → (r ≡ Length (length (secureOf [] c))) × (a ≡ secureOf [] c ++ drop (length (secureOf [] c)) b)
-    × ((q : Parsed) → PayloadParsed c.code (secureOf [] c) q → PayloadIs (secureOf [] c) q c)
-    × (s ≢ secureOf [] c → length (secureOf [] c) < length s)
+    → length (secure_of [] c) ≤ length b → WriterAccount c b r a
+    → (r ≡ Length (length (secure_of [] c))) × (a ≡ secure_of [] c ++ drop (length (secure_of [] c)) b)
+    × ((q : Parsed) → PayloadParsed c.code (secure_of [] c) q → PayloadIs (secure_of [] c) q c)
+    × (s ≢ secure_of [] c → length (secure_of [] c) < length s)
 
 -- "The accepted frames of a command are exactly its choices of short or long form .. within 255 bytes", of a command that some frame gives
 abbrev pub FramesReadAreChoices : Type 0
@@ -138,17 +138,17 @@ TwoPayloadsRead =
 -- "how many were long": of a choice of forms, the parser's result tells how many elements it makes long.
 abbrev pub FrameLongTold : Type 0
 FrameLongTold =
-    (c : Command) → HasFrame c → (forms : Forms) (p : Parsed) → length (frameOf forms c) ≤ 255 → FrameParsed (frameOf forms c) p
-    → p.long ≡ longIn forms (elementsOf c)
+    (c : Command) → HasFrame c → (forms : Forms) (p : Parsed) → length (frame_of forms c) ≤ 255 → FrameParsed (frame_of forms c) p
+    → p.long ≡ long_in forms (elements_of c)
 
 abbrev pub PayloadLongTold : Type 0
 PayloadLongTold =
     (c : Command) → HasPayload c → (forms : Forms) (tail : List ℕ) (p : Parsed) → MayFollow c.code tail
-    → PayloadParsed c.code (secureOf forms c ++ tail) p → p.long ≡ longIn forms (elementsOf c)
+    → PayloadParsed c.code (secure_of forms c ++ tail) p → p.long ≡ long_in forms (elements_of c)
 
 -- A block number without a place and a mode is no command: 04 with one is 22. The elements of its three lists would be none if the shortest list counted.
-abbrev pub numberAlone : ℕ → Command
-numberAlone n =
+abbrev pub only_number : ℕ → Command
+only_number n =
     record {
       code = 0x04;
       idm = zeros 8;
@@ -158,14 +158,14 @@ numberAlone n =
       numbers = n ∷ [];
       places = [];
       modes = [];
-      blockData = [];
+      block_data = [];
       number = 0;
       index = 0;
       option = 0;
       choice = 0;
       challenge = zeros 16;
-      issuePackage = [];
+      issue_package = [];
     }
 
 abbrev pub NumberAlone : Type 0
-NumberAlone = (n : ℕ) (b : List ℕ) (r : Written) (a : List ℕ) → WriterAccount (numberAlone n) b r a → r ≡ refusal 22 0x04
+NumberAlone = (n : ℕ) (b : List ℕ) (r : Written) (a : List ℕ) → WriterAccount (only_number n) b r a → r ≡ refusal 22 0x04

@@ -41,6 +41,6 @@ store code none buffer = outcome (refused 22 (some code)) buffer
 store code (some s) buffer = stored (ltb (length buffer) (length s)) code s buffer
 
 -- The outcome for what was handed in and the buffer before the call. Where `writable` holds, `written` is the frame `frame_of []` of a plain command and the
--- payload `secureOf []` of a secure one, else none.
+-- payload `secure_of []` of a secure one, else none.
 unfoldable pub writing : Command → List ℕ → Outcome
 writing c buffer = store c.code (written c) buffer

@@ -1,11 +1,11 @@
 // The parts of a body, put into a buffer one behind the other.
 ghost use Rattle.std.specs.Prelude.{◌≡◌, true, false, [], ◌∷◌, ℕ, ◌≤◌, ◌<◌, length, take};
-ghost use Rattle.felica_format.specs.Basic.{allBelow, wordBytes};
-ghost use Rattle.felica_format.specs.Command.{endFields, zipElements};
-ghost use Rattle.felica_format.specs.Read.{sizeOf};
-ghost use Rattle.felica_format.specs.Write.{idmBytes, selectorBytes, wordsBytes, codesBytes, elementBytes, elementsBytes, endingBytes, bodyBytes};
+ghost use Rattle.felica_format.specs.Basic.{all_below, word_bytes};
+ghost use Rattle.felica_format.specs.Command.{end_fields, zip_elements};
+ghost use Rattle.felica_format.specs.Read.{size_of};
+ghost use Rattle.felica_format.specs.Write.{idm_bytes, selector_bytes, words_bytes, codes_bytes, element_bytes, elements_bytes, ending_bytes, body_bytes};
 ghost use Rattle.felica_command.specs.Handed.{handed};
-ghost use Rattle.felica_layout.specs.Layout.{layoutMeant, selectorMeant, codesMeant, endingMeant};
+ghost use Rattle.felica_layout.specs.Layout.{layout_meant, selector_meant, codes_meant, ending_meant};
 ghost use Rattle.felica_put.specs.Put.{buffer, put};
 ghost use Rattle.felica_write.specs.Body.{Ready, element};
 
@@ -29,8 +29,8 @@ pub(crate) fn put_body(
     data: &[u8],
     package: &[u8],
 ) -> usize
-    requires { Ready (layoutMeant layout) (handed 0 fixed first.now second.now numbers.now places.now modes.now «data».now «package».now) }
-    ensures { (code : ℕ) → buffer out.new result ≡ put (buffer out.old at) (bodyBytes (layoutMeant layout) [] (handed code fixed first.now second.now numbers.now places.now modes.now «data».now «package».now)) }
+    requires { Ready (layout_meant layout) (handed 0 fixed first.now second.now numbers.now places.now modes.now «data».now «package».now) }
+    ensures { (code : ℕ) → buffer out.new result ≡ put (buffer out.old at) (body_bytes (layout_meant layout) [] (handed code fixed first.now second.now numbers.now places.now modes.now «data».now «package».now)) }
 {
     let idm = fixed.idm;
     let selector = layout.selector;
@@ -49,7 +49,7 @@ pub(crate) fn put_body(
 }
 
 fn put_idm(out: &mut [u8], at: usize, present: bool, idm: [u8; 8]) -> usize
-    ensures { buffer out.new result ≡ put (buffer out.old at) (idmBytes present idm) }
+    ensures { buffer out.new result ≡ put (buffer out.old at) (idm_bytes present idm) }
 {
     if !present {
         return at;
@@ -58,7 +58,7 @@ fn put_idm(out: &mut [u8], at: usize, present: bool, idm: [u8; 8]) -> usize
 }
 
 fn put_selector(out: &mut [u8], at: usize, selector: Selector, value: u8) -> usize
-    ensures { buffer out.new result ≡ put (buffer out.old at) (selectorBytes (selectorMeant selector) value) }
+    ensures { buffer out.new result ≡ put (buffer out.old at) (selector_bytes (selector_meant selector) value) }
 {
     match selector {
         Selector::NoSelector => at,
@@ -69,7 +69,7 @@ fn put_selector(out: &mut [u8], at: usize, selector: Selector, value: u8) -> usi
 
 fn put_codes(out: &mut [u8], at: usize, codes: Codes, list: &[u16]) -> usize
     requires { length list.now ≤ 255 }
-    ensures { buffer out.new result ≡ put (buffer out.old at) (codesBytes (codesMeant codes) list.now) }
+    ensures { buffer out.new result ≡ put (buffer out.old at) (codes_bytes (codes_meant codes) list.now) }
 {
     match codes {
         Codes::NoCodes => at,
@@ -80,7 +80,7 @@ fn put_codes(out: &mut [u8], at: usize, codes: Codes, list: &[u16]) -> usize
 // The count, and the codes.
 fn put_counted(out: &mut [u8], at: usize, list: &[u16]) -> usize
     requires { length list.now ≤ 255 }
-    ensures { buffer out.new result ≡ put (buffer out.old at) (length list.now ∷ wordsBytes list.now) }
+    ensures { buffer out.new result ≡ put (buffer out.old at) (length list.now ∷ words_bytes list.now) }
 {
     let mut next = put_byte(out, at, list.len() as u8);
     let mut i = 0;
@@ -93,7 +93,7 @@ fn put_counted(out: &mut [u8], at: usize, list: &[u16]) -> usize
 
 // The low byte first.
 fn put_word(out: &mut [u8], at: usize, word: u16) -> usize
-    ensures { buffer out.new result ≡ put (buffer out.old at) (wordBytes word) }
+    ensures { buffer out.new result ≡ put (buffer out.old at) (word_bytes word) }
 {
     let next = put_byte(out, at, (word % 256) as u8);
     put_byte(out, next, (word / 256) as u8)
@@ -107,8 +107,8 @@ fn put_elements(
     places: &[u8],
     modes: &[u8],
 ) -> usize
-    requires { (length numbers.now ≤ 255) × (length places.now ≡ length numbers.now) × (length modes.now ≡ length numbers.now) × (allBelow 16 places.now ≡ true) × (allBelow 8 modes.now ≡ true) }
-    ensures { buffer out.new result ≡ put (buffer out.old at) (elementsBytes present [] (zipElements numbers.now places.now modes.now)) }
+    requires { (length numbers.now ≤ 255) × (length places.now ≡ length numbers.now) × (length modes.now ≡ length numbers.now) × (all_below 16 places.now ≡ true) × (all_below 8 modes.now ≡ true) }
+    ensures { buffer out.new result ≡ put (buffer out.old at) (elements_bytes present [] (zip_elements numbers.now places.now modes.now)) }
 {
     if !present {
         return at;
@@ -125,7 +125,7 @@ fn put_elements(
 // One element in its shortest form: bit 7 of its first byte says that one byte of block number follows.
 fn put_element(out: &mut [u8], at: usize, number: u16, place: u8, mode: u8) -> usize
     requires { (place < 16) × (mode < 8) }
-    ensures { buffer out.new result ≡ put (buffer out.old at) (elementBytes false (element number place mode)) }
+    ensures { buffer out.new result ≡ put (buffer out.old at) (element_bytes false (element number place mode)) }
 {
     let head = 16 * mode + place;
     if number < LEAST_LONG {
@@ -144,8 +144,8 @@ fn put_challenge(out: &mut [u8], at: usize, challenge: [u8; 16], count: usize) -
 }
 
 fn put_ending(out: &mut [u8], at: usize, ending: Ending, fixed: Fixed) -> usize
-    requires { sizeOf (endingMeant ending) ≤ 16 }
-    ensures { buffer out.new result ≡ put (buffer out.old at) (endingBytes (endingMeant ending) (endFields fixed.number fixed.index fixed.option fixed.choice fixed.challenge)) }
+    requires { size_of (ending_meant ending) ≤ 16 }
+    ensures { buffer out.new result ≡ put (buffer out.old at) (ending_bytes (ending_meant ending) (end_fields fixed.number fixed.index fixed.option fixed.choice fixed.challenge)) }
 {
     let challenge = fixed.challenge;
     match ending {

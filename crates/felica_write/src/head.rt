@@ -2,7 +2,7 @@
 ghost use Rattle.std.specs.Prelude.{◌≡◌, [], ◌∷◌, ◌+◌, ◌≤◌};
 ghost use Rattle.felica_format.specs.declared.classes.Class.TheVariants.{Plain};
 ghost use Rattle.felica_put.specs.Put.{buffer, put};
-ghost use Rattle.felica_write.specs.Head.{roomFor, frameRoom, payloadRoom, headBytes};
+ghost use Rattle.felica_write.specs.Head.{room_for, frame_room, payload_room, head_bytes};
 
 use felica_format::classes::Class;
 use felica_format::constants::MAX_PACKET_LEN;
@@ -22,7 +22,7 @@ pub(crate) enum Room {
 // Whether there is room for a body of `size` bytes and a package behind it.
 pub(crate) fn room_for(class: Class, size: usize, package: usize, room: usize) -> Room
     requires { size ≤ 6000 }
-    ensures { result ≡ roomFor class size «package» room }
+    ensures { result ≡ room_for class size «package» room }
 {
     match class {
         Class::Plain => frame_room(size, room),
@@ -34,7 +34,7 @@ pub(crate) fn room_for(class: Class, size: usize, package: usize, room: usize) -
 // A plain command has no package.
 fn frame_room(size: usize, room: usize) -> Room
     requires { size ≤ 6000 }
-    ensures { result ≡ frameRoom size room }
+    ensures { result ≡ frame_room size room }
 {
     let len = HEAD_LEN + size;
     if MAX_PACKET_LEN < len {
@@ -48,7 +48,7 @@ fn frame_room(size: usize, room: usize) -> Room
 
 // A package may be of any length, so that no sum with it is made.
 fn payload_room(size: usize, package: usize, room: usize) -> Room
-    ensures { result ≡ payloadRoom size «package» room }
+    ensures { result ≡ payload_room size «package» room }
 {
     if room < size {
         return Room::Refused(error::BUFFER_TOO_SMALL);
@@ -62,7 +62,7 @@ fn payload_room(size: usize, package: usize, room: usize) -> Room
 // Answers where the body begins.
 pub(crate) fn put_head(out: &mut [u8], class: Class, code: u8, size: usize) -> usize
     requires { class ≡ Plain → 2 + size ≤ 255 }
-    ensures { buffer out.new result ≡ put (buffer out.old 0) (headBytes class code size) }
+    ensures { buffer out.new result ≡ put (buffer out.old 0) (head_bytes class code size) }
 {
     match class {
         Class::Plain => put_frame_head(out, code, HEAD_LEN + size),

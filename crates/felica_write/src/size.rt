@@ -1,9 +1,9 @@
 // How many bytes the parts of a body have.
 ghost use Rattle.std.specs.Prelude.{◌≡◌, cond, ◌≤◌, length, ltb};
-ghost use Rattle.felica_format.specs.Read.{sizeOf};
-ghost use Rattle.felica_command.specs.Places.{selectorSize, codesSize};
-ghost use Rattle.felica_layout.specs.Layout.{layoutMeant, selectorMeant, codesMeant, endingMeant};
-ghost use Rattle.felica_write.specs.Size.{Few, shortSize, frontSize};
+ghost use Rattle.felica_format.specs.Read.{size_of};
+ghost use Rattle.felica_command.specs.Places.{selector_size, codes_size};
+ghost use Rattle.felica_layout.specs.Layout.{layout_meant, selector_meant, codes_meant, ending_meant};
+ghost use Rattle.felica_write.specs.Size.{Few, short_size, front_size};
 
 use felica_format::constants::IDM_LEN;
 use felica_layout::{Codes, Ending, Layout, Selector};
@@ -16,8 +16,8 @@ pub(crate) fn body_size(
     numbers: &[u16],
     data: usize,
 ) -> usize
-    requires { Few (layoutMeant layout) first second (length numbers.now) «data» }
-    ensures { (result ≡ frontSize (layoutMeant layout) first second numbers.now «data») × (result ≤ 6000) }
+    requires { Few (layout_meant layout) first second (length numbers.now) «data» }
+    ensures { (result ≡ front_size (layout_meant layout) first second numbers.now «data») × (result ≤ 6000) }
 {
     let selector = layout.selector;
     let first_codes = layout.first;
@@ -35,7 +35,7 @@ fn size_if(present: bool, size: usize) -> usize
 }
 
 fn selector_size(selector: Selector) -> usize
-    ensures { (result ≡ selectorSize (selectorMeant selector)) × (result ≤ 1) }
+    ensures { (result ≡ selector_size (selector_meant selector)) × (result ≤ 1) }
 {
     match selector {
         Selector::NoSelector => 0,
@@ -46,7 +46,7 @@ fn selector_size(selector: Selector) -> usize
 
 fn codes_size(codes: Codes, count: usize) -> usize
     requires { count ≤ 255 }
-    ensures { (result ≡ codesSize (codesMeant codes) count) × (result ≤ 511) }
+    ensures { (result ≡ codes_size (codes_meant codes) count) × (result ≤ 511) }
 {
     match codes {
         Codes::NoCodes => 0,
@@ -57,7 +57,7 @@ fn codes_size(codes: Codes, count: usize) -> usize
 // Elements in their shortest form.
 fn short_size(numbers: &[u16]) -> usize
     requires { length numbers.now ≤ 255 }
-    ensures { (result ≡ shortSize numbers.now) × (result ≤ 765) }
+    ensures { (result ≡ short_size numbers.now) × (result ≤ 765) }
 {
     let mut size: usize = 0;
     let mut i = 0;
@@ -75,7 +75,7 @@ fn element_size(number: u16) -> usize
 }
 
 fn ending_size(ending: Ending) -> usize
-    ensures { result ≡ sizeOf (endingMeant ending) }
+    ensures { result ≡ size_of (ending_meant ending) }
 {
     match ending {
         Ending::Bytes(count) => count,

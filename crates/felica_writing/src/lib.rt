@@ -4,11 +4,11 @@
 ghost use Rattle.std.specs.Prelude.{◌≡◌, ◌≤◌};
 ghost use Rattle.felica_format.specs.Basic.{zeros};
 ghost use Rattle.felica_put.specs.Put.{buffer, put};
-ghost use Rattle.felica_calls.specs.Write.{maxRoom};
-ghost use Rattle.felica_named.specs.Handed.{commandOver, commandNamed};
+ghost use Rattle.felica_calls.specs.Write.{max_room};
+ghost use Rattle.felica_named.specs.Handed.{command_over, command_named};
 ghost use Rattle.felica_write.specs.Writing.{writing};
-ghost use Rattle.felica_answers.specs.Written.{writtenLine};
-ghost use Rattle.felica_writing.specs.Answer.{writeAnswer};
+ghost use Rattle.felica_answers.specs.Written.{written_line};
+ghost use Rattle.felica_writing.specs.Answer.{write_answer};
 
 use felica_answers::written::put_written;
 use felica_calls::fault::{Fault, put_fault};
@@ -28,7 +28,7 @@ const MAX_BYTES: usize = 16384;
 
 // The fields stand in `text`, behind the command code.
 pub fn answer_write(size: usize, code: u8, text: &[u8], out: &mut [u8], at: usize) -> usize
-    ensures { buffer out.new result ≡ put (buffer out.old at) (writeAnswer size code text.now) }
+    ensures { buffer out.new result ≡ put (buffer out.old at) (write_answer size code text.now) }
 {
     // No call that was read has such a size; but this function asks nothing of its caller.
     if MAX_ROOM < size {
@@ -50,8 +50,8 @@ fn answer_named(
     out: &mut [u8],
     at: usize,
 ) -> usize
-    requires { size ≤ maxRoom }
-    ensures { buffer out.new result ≡ put (buffer out.old at) (writtenLine (writing (commandNamed code text.now starts.now) (zeros size))) }
+    requires { size ≤ max_room }
+    ensures { buffer out.new result ≡ put (buffer out.old at) (written_line (writing (command_named code text.now starts.now) (zeros size))) }
 {
     let mut first = [0u16; MAX_WORDS];
     let mut second = [0u16; MAX_WORDS];
@@ -94,7 +94,7 @@ fn answer_from(
     out: &mut [u8],
     at: usize,
 ) -> usize
-    ensures { buffer out.new result ≡ put (buffer out.old at) (writtenLine (writing (commandOver code text.now starts.now first.old second.old numbers.old places.old modes.old «data».old «package».old) room.old)) }
+    ensures { buffer out.new result ≡ put (buffer out.old at) (written_line (writing (command_over code text.now starts.now first.old second.old numbers.old places.old modes.old «data».old «package».old) room.old)) }
 {
     let first_end = words_named(text, starts, FIRST, first);
     let second_end = words_named(text, starts, SECOND, second);

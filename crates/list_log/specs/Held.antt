@@ -6,9 +6,9 @@ use Rattle.std.specs.declared.option.Option.{Option}
 use Rattle.std.specs.Io.KnownBytes.{Consumes, Appends, IsAtEnd}
 use Rattle.felica_totals.specs.declared.Totals.{Totals}
 use Rattle.felica_put.specs.Put.{Buffer}
-use Rattle.felica_stream.specs.Held.{stillWaiting}
-use Rattle.felica_log.specs.Listing.{maxRecords, recordsLeft, listingFrom, listing}
-use Rattle.felica_log.specs.Step.{lineRoom}
+use Rattle.felica_stream.specs.Held.{still_waiting}
+use Rattle.felica_log.specs.Listing.{max_records, records_left, listing_from, listing}
+use Rattle.felica_log.specs.Step.{line_room}
 use Rattle.felica_log.specs.Rules.{NoneLeft}
 
 -- Of the bytes held so many are listed; the totals went from t to u, the output from b to c, and what the writer holds from v to w.
@@ -16,7 +16,7 @@ pub record ListedUpTo (v : Option (List ℕ)) (t : Totals) (b : Buffer) (held : 
   pub lines : List ℕ
   pub written : List ℕ
   -- the lines are the front of the listing of any log that goes on with these bytes; the rest of it is that of the bytes left
-  pub lists : (behind : List ℕ) → listingFrom (recordsLeft t) t (held ++ behind) ≡ lines ++ listingFrom (recordsLeft u) u (drop used held ++ behind)
+  pub lists : (behind : List ℕ) → listing_from (records_left t) t (held ++ behind) ≡ lines ++ listing_from (records_left u) u (drop used held ++ behind)
   -- what waited and the lines behind it are what was written and what waits now
   pub waits : take b.next b.bytes ++ lines ≡ written ++ take c.next c.bytes
   pub taken : Appends v w written
@@ -34,15 +34,15 @@ RestKept v t b held w u c rest = (used : ℕ) × AllListed v t b held w u c used
 pub record ReadAndListed (q r v w : Option (List ℕ)) (t : Totals) (c : Buffer) (held : List ℕ) : Type 0 where
   pub log : List ℕ
   pub written : List ℕ
-  pub lists : (behind : List ℕ) → listing (log ++ behind) ≡ written ++ (take c.next c.bytes ++ listingFrom (recordsLeft t) t (held ++ behind))
+  pub lists : (behind : List ℕ) → listing (log ++ behind) ≡ written ++ (take c.next c.bytes ++ listing_from (records_left t) t (held ++ behind))
   pub given : Consumes q r log
   pub taken : Appends v w written
 
 -- Nothing is left to be read of a log: its end is reached, a byte follows the last record that may be read, or the log is so long that the turns of the loop over it do not suffice.
 pub data ReadToEnd (r : Option (List ℕ)) (t : Totals) (held log : List ℕ) : Type 0 where
-  atEnd : IsAtEnd r → ReadToEnd r t held log
-  atLimit : maxRecords ≤ t.records → 0 < length held → ReadToEnd r t held log
-  tooLong : 2 ^ 64 - 1 ≤ length log → ReadToEnd r t held log
+  at_end : IsAtEnd r → ReadToEnd r t held log
+  at_limit : max_records ≤ t.records → 0 < length held → ReadToEnd r t held log
+  too_long : 2 ^ 64 - 1 ≤ length log → ReadToEnd r t held log
 
 -- The same of the log that has been read, which is read to its end.
 abbrev pub AllRead : Option (List ℕ) → Option (List ℕ) → Option (List ℕ) → Option (List ℕ) → Totals → Buffer → List ℕ → Type 0
@@ -55,8 +55,8 @@ TakesListing q v w = IfSome q (λ log. length log < 2 ^ 64 - 1 → Appends v w (
 -- The last bytes that are written: those that wait, and a text behind them.
 abbrev pub EndPut : Buffer → List ℕ → List ℕ → Type 0
 EndPut b text after =
-    take (stillWaiting (length b.bytes) b.next lineRoom + length text) after ≡ take (stillWaiting (length b.bytes) b.next lineRoom) b.bytes ++ text
+    take (still_waiting (length b.bytes) b.next line_room + length text) after ≡ take (still_waiting (length b.bytes) b.next line_room) b.bytes ++ text
 
 -- nothing more is to be read: the input has ended, a write failed, or a byte follows the last record that may be read
 unfoldable pub over : Bool → Bool → Totals → ℕ → Bool
-over ended failed t held = ended || (failed || (leb maxRecords t.records && ltb 0 held))
+over ended failed t held = ended || (failed || (leb max_records t.records && ltb 0 held))

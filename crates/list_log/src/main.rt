@@ -4,7 +4,7 @@
 ghost use Rattle.std.specs.Prelude.{◌≡◌, ◌≤◌, ◌<◌, true, false, ◌++◌, length, take, drop};
 ghost use Rattle.std.specs.Io.KnownBytes.{Consumes, Appends, IsAtEnd};
 ghost use Rattle.felica_put.specs.Put.{buffer};
-ghost use Rattle.felica_log.specs.Step.{lineRoom, endText};
+ghost use Rattle.felica_log.specs.Step.{line_room, end_text};
 ghost use Rattle.felica_log.specs.Rules.{Sound, NoneLeft};
 ghost use Rattle.list_log.specs.Held.{AllListed, RestKept, ReadAndListed, AllRead, TakesListing, EndPut, over};
 
@@ -70,7 +70,7 @@ fn list_held<W: Write>(
     waiting: usize,
     totals: Totals,
 ) -> Listed
-    requires { (waiting ≤ length out.old) × (lineRoom ≤ length out.old) × Sound totals }
+    requires { (waiting ≤ length out.old) × (line_room ≤ length out.old) × Sound totals }
     ensures { (result.used ≤ length held.now) × (result.waiting ≤ length out.new) × Sound result.totals × (result.failed ≡ false → AllListed (W.contents writer.old) totals (buffer out.old waiting) held.now (W.contents writer.new) result.totals (buffer out.new result.waiting) result.used) }
 {
     let mut used = 0;
@@ -103,7 +103,7 @@ fn list_input<W: Write>(
     waiting: usize,
     totals: Totals,
 ) -> State
-    requires { (held ≤ length input.old) × (waiting ≤ length out.old) × (lineRoom ≤ length out.old) × Sound totals }
+    requires { (held ≤ length input.old) × (waiting ≤ length out.old) × (line_room ≤ length out.old) × Sound totals }
     ensures { (result.held ≤ length input.new) × (result.waiting ≤ length out.new) × Sound result.totals × (result.write_failed ≡ false → RestKept (W.contents writer.old) totals (buffer out.old waiting) (take held input.old) (W.contents writer.new) result.totals (buffer out.new result.waiting) (take result.held input.new)) }
 {
     let listed = list_held(writer, &input[..held], out, waiting, totals);
@@ -153,7 +153,7 @@ fn feed<R: Read, W: Write>(
     input: &mut [u8],
     out: &mut [u8],
 ) -> State
-    requires { (256 ≤ length input.old) × (lineRoom ≤ length out.old) }
+    requires { (256 ≤ length input.old) × (line_room ≤ length out.old) }
     ensures all { result.read_failed ≡ false → result.write_failed ≡ false → AllRead (R.remaining reader.old) (R.remaining reader.new) (W.contents writer.old) (W.contents writer.new) result.totals (buffer out.new result.waiting) (take result.held input.new) }
     ensures listed { (result.held ≤ length input.new) × (result.waiting ≤ length out.new) × Sound result.totals × (result.write_failed ≡ false → ReadAndListed (R.remaining reader.old) (R.remaining reader.new) (W.contents writer.old) (W.contents writer.new) result.totals (buffer out.new result.waiting) (take result.held input.new)) × (result.read_failed ≡ false → result.write_failed ≡ false → NoneLeft result.totals (take result.held input.new)) }
 {
@@ -181,10 +181,10 @@ fn feed<R: Read, W: Write>(
 
 // Writes what waits and the lines that end the listing, and answers whether everything is written.
 fn finish<W: Write>(writer: &mut W, rest: &[u8], out: &mut [u8], state: State) -> bool
-    requires { (state.waiting ≤ length out.old) × (lineRoom ≤ length out.old) × Sound state.totals }
-    ensures end { result ≡ true → EndPut (buffer out.old state.waiting) (endText state.totals rest.now) out.new }
+    requires { (state.waiting ≤ length out.old) × (line_room ≤ length out.old) × Sound state.totals }
+    ensures end { result ≡ true → EndPut (buffer out.old state.waiting) (end_text state.totals rest.now) out.new }
     ensures write_failed { result ≡ true → state.write_failed ≡ false }
-    ensures bytes { result ≡ true → Appends (W.contents writer.old) (W.contents writer.new) (take state.waiting out.old ++ endText state.totals rest.now) }
+    ensures bytes { result ≡ true → Appends (W.contents writer.old) (W.contents writer.new) (take state.waiting out.old ++ end_text state.totals rest.now) }
 {
     if state.write_failed {
         return false;
@@ -206,7 +206,7 @@ fn run<R: Read, W: Write, E: Write>(
     input: &mut [u8],
     out: &mut [u8],
 ) -> bool
-    requires { (256 ≤ length input.old) × (lineRoom ≤ length out.old) }
+    requires { (256 ≤ length input.old) × (line_room ≤ length out.old) }
     ensures { result ≡ true → TakesListing (R.remaining reader.old) (W.contents writer.old) (W.contents writer.new) }
 {
     let state = feed(reader, writer, input, out);

@@ -4,8 +4,8 @@ use native.Mathlib.Omega.{arith}
 use mathlib.Core.Path.{sym}
 use lib.ListN.{length-take}
 use lib.Seq.{length-take-le}
-use Rattle.felica_put.proofs.Laws.{put-within}
-use Rattle.felica_stream.proofs.Held.{waits-inside}
+use Rattle.felica_put.proofs.Laws.{put_within}
+use Rattle.felica_stream.proofs.Held.{waits_inside}
 use Rattle.felica.proofs.answer_held.Goals as goal
 
 pub slice_bounds-answer_lines-end-2 : goal.slice_bounds-answer_lines-end-2
@@ -15,4 +15,4 @@ pub overflow_sub-held : goal.overflow_sub-held
 overflow_sub-held g c = let d = simp length-take at c.answer_lines-state.ensures.0 in omega arith
 
 pub returns : goal.returns
-returns g c = (c.skip_line.ensures, put-within _ _ _ c.put_byte-next.ensures (put-within _ _ _ c.put_fault-behind.ensures (waits-inside _ _ _ _ c.make_room-output.ensures.counts.0)))
+returns g c = (c.skip_line.ensures, put_within _ _ _ c.put_byte-next.ensures (put_within _ _ _ c.put_fault-behind.ensures (waits_inside _ _ _ _ c.make_room-output.ensures.counts.0)))

@@ -1,10 +1,10 @@
 -- `felica_list_frame` meets its contract: what is told of the list reader's result is told of what the bytes give and the buffers held.
 -- Assumes nothing.
 use lib.ListN.{drop}
-use Rattle.felica_format.specs.Read.{readFrame}
+use Rattle.felica_format.specs.Read.{read_frame}
 use Rattle.felica_lists.specs.Lists.{buffers, listed}
 use Rattle.felica_c.specs.Boundary.{lent}
-use Rattle.felica_c.proofs.Laws.{list-tells}
+use Rattle.felica_c.proofs.Laws.{list_tells}
 use Rattle.felica_c_list_frame.proofs.felica_list_frame.Goals as goal
 
 pub returns : goal.returns
@@ -13,4 +13,4 @@ returns c =
     let a = c.args in
     let m = lent a.idm.now a.challenge.now a.fields.now a.parts.now in
     let b = buffers a.first.now a.second.now a.numbers.now a.places.now a.modes.now in
-    list-tells (drop 1 a.frame.now) 1 (listed (readFrame a.frame.now) b) p.result _ m _ p.ensures.0 p.ensures.1 c.tell.ensures
+    list_tells (drop 1 a.frame.now) 1 (listed (read_frame a.frame.now) b) p.result _ m _ p.ensures.0 p.ensures.1 c.tell.ensures

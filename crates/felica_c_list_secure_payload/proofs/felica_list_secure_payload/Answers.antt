@@ -1,9 +1,9 @@
 -- `felica_list_secure_payload` meets its contract: what is told of the list reader's result is told of what the bytes give and the buffers held.
 -- Assumes nothing.
-use Rattle.felica_format.specs.Read.{readSecure}
+use Rattle.felica_format.specs.Read.{read_secure}
 use Rattle.felica_lists.specs.Lists.{buffers, listed}
 use Rattle.felica_c.specs.Boundary.{lent}
-use Rattle.felica_c.proofs.Laws.{list-tells}
+use Rattle.felica_c.proofs.Laws.{list_tells}
 use Rattle.felica_c_list_secure_payload.proofs.felica_list_secure_payload.Goals as goal
 
 pub returns : goal.returns
@@ -12,4 +12,4 @@ returns c =
     let a = c.args in
     let m = lent a.idm.now a.challenge.now a.fields.now a.parts.now in
     let b = buffers a.first.now a.second.now a.numbers.now a.places.now a.modes.now in
-    list-tells a.payload.now 0 (listed (readSecure a.command_code a.payload.now) b) p.result _ m _ p.ensures.0 p.ensures.1 c.tell.ensures
+    list_tells a.payload.now 0 (listed (read_secure a.command_code a.payload.now) b) p.result _ m _ p.ensures.0 p.ensures.1 c.tell.ensures

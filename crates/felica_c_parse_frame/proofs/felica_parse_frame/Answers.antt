@@ -2,13 +2,13 @@
 -- Assumes nothing.
 use mathlib.Core.Path.{◌∙◌}
 use lib.ListN.{drop}
-use Rattle.felica_format.specs.Read.{readFrame}
+use Rattle.felica_format.specs.Read.{read_frame}
 use Rattle.felica_c.specs.Boundary.{lent}
-use Rattle.felica_c.proofs.Laws.{result-tells}
+use Rattle.felica_c.proofs.Laws.{result_tells}
 use Rattle.felica_c_parse_frame.proofs.felica_parse_frame.Goals as goal
 
 pub returns : goal.returns
 returns c =
     let p = c.parse_frame-parsed in
     let a = c.args in
-    c.tell.ensures ∙ result-tells (drop 1 a.frame.now) 1 (readFrame a.frame.now) p.result (lent a.idm.now a.challenge.now a.fields.now a.parts.now) p.ensures.0 p.ensures.1
+    c.tell.ensures ∙ result_tells (drop 1 a.frame.now) 1 (read_frame a.frame.now) p.result (lent a.idm.now a.challenge.now a.fields.now a.parts.now) p.ensures.0 p.ensures.1

@@ -1,13 +1,13 @@
 -- `felica_parse_secure_payload` meets its contract: what is told of the parser's result is told of what the bytes give.
 -- Assumes nothing.
 use mathlib.Core.Path.{◌∙◌}
-use Rattle.felica_format.specs.Read.{readSecure}
+use Rattle.felica_format.specs.Read.{read_secure}
 use Rattle.felica_c.specs.Boundary.{lent}
-use Rattle.felica_c.proofs.Laws.{result-tells}
+use Rattle.felica_c.proofs.Laws.{result_tells}
 use Rattle.felica_c_parse_secure_payload.proofs.felica_parse_secure_payload.Goals as goal
 
 pub returns : goal.returns
 returns c =
     let p = c.parse_secure_payload-parsed in
     let a = c.args in
-    c.tell.ensures ∙ result-tells a.payload.now 0 (readSecure a.command_code a.payload.now) p.result (lent a.idm.now a.challenge.now a.fields.now a.parts.now) p.ensures.0 p.ensures.1
+    c.tell.ensures ∙ result_tells a.payload.now 0 (read_secure a.command_code a.payload.now) p.result (lent a.idm.now a.challenge.now a.fields.now a.parts.now) p.ensures.0 p.ensures.1

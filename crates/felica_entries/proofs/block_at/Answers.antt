@@ -5,14 +5,14 @@ use Prim.Native.Nat.{suc, ◌-◌}
 use native.Mathlib.Omega.{arith}
 use lib.ListN.{drop}
 use Rattle.felica_format.specs.Read.{formed}
-use Rattle.felica_command.specs.Types.{elementIs}
-use Rattle.felica_entries.specs.Entries.{valueOf, elementBehind}
-use Rattle.felica_cursor.specs.Steps.{elementTaken}
-use Rattle.felica_entries.proofs.OneEntry.{no-element, one-element, behind-none, behind-more, behind-refused}
+use Rattle.felica_command.specs.Types.{element_is}
+use Rattle.felica_entries.specs.Entries.{value_of, element_behind}
+use Rattle.felica_cursor.specs.Steps.{element_taken}
+use Rattle.felica_entries.proofs.OneEntry.{no_element, one_element_read, behind_none, behind_more, behind_refused}
 use Rattle.felica_entries.proofs.block_at.Goals as goal
 
 pub returns-then-list-i : goal.returns-then-list-i
-returns-then-list-i c = let a = c.args in sym (no-element a.payload.now a.list a.i c.if-list-i.true)
+returns-then-list-i c = let a = c.args in sym (no_element a.payload.now a.list a.i c.if-list-i.true)
 
 pub loop-left-init : goal.loop-left-init
 loop-left-init c = refl
@@ -23,8 +23,8 @@ returns-in_default c =
     let s = a.payload.now in
     let loop = c.loop-left in
     let p : loop.left ≡ suc (loop.left - 1) = omega arith in
-    let stopped = behind-refused loop.left (loop.left - 1) (drop loop.at s) _ p (c.take_element-taken.ensures.0 ∙ ap (elementTaken s) c.in_default.is) in
-    sym (one-element s a.list a.i (omega arith) ∙ ap valueOf (loop.invariant ∙ stopped))
+    let stopped = behind_refused loop.left (loop.left - 1) (drop loop.at s) _ p (c.take_element-taken.ensures.0 ∙ ap (element_taken s) c.in_default.is) in
+    sym (one_element_read s a.list a.i (omega arith) ∙ ap value_of (loop.invariant ∙ stopped))
 
 pub loop-left-preserved : goal.loop-left-preserved
 loop-left-preserved c =
@@ -32,7 +32,7 @@ loop-left-preserved c =
     let loop = c.loop-left in
     let p : loop.left ≡ suc (loop.left - 1) = omega arith in
     loop.invariant ∙
-    behind-more loop.left (loop.left - 1) (drop loop.at s) (formed c.in-Element.field-1 (elementIs c.in-Element.field-0)) _ p (c.take_element-taken.ensures.0 ∙ ap (elementTaken s) c.in-Element.is)
+    behind_more loop.left (loop.left - 1) (drop loop.at s) (formed c.in-Element.field-1 (element_is c.in-Element.field-0)) _ p (c.take_element-taken.ensures.0 ∙ ap (element_taken s) c.in-Element.is)
 
 pub returns-in_default-taken : goal.returns-in_default-taken
 returns-in_default-taken c =
@@ -40,8 +40,8 @@ returns-in_default-taken c =
     let s = a.payload.now in
     let loop = c.loop-left in
     let p : loop.left ≡ 0 = omega arith in
-    let here = ap (λ n. elementBehind n (drop loop.at s)) p ∙ behind-none (drop loop.at s) in
-    sym (one-element s a.list a.i (omega arith) ∙ ap valueOf (loop.invariant ∙ here ∙ c.take_element-taken-2.ensures.0 ∙ ap (elementTaken s) c.in_default-taken.is))
+    let here = ap (λ n. element_behind n (drop loop.at s)) p ∙ behind_none (drop loop.at s) in
+    sym (one_element_read s a.list a.i (omega arith) ∙ ap value_of (loop.invariant ∙ here ∙ c.take_element-taken-2.ensures.0 ∙ ap (element_taken s) c.in_default-taken.is))
 
 pub returns : goal.returns
 returns c =
@@ -49,5 +49,5 @@ returns c =
     let s = a.payload.now in
     let loop = c.loop-left in
     let p : loop.left ≡ 0 = omega arith in
-    let here = ap (λ n. elementBehind n (drop loop.at s)) p ∙ behind-none (drop loop.at s) in
-    sym (one-element s a.list a.i (omega arith) ∙ ap valueOf (loop.invariant ∙ here ∙ c.take_element-taken-2.ensures.0 ∙ ap (elementTaken s) c.in-Element-taken.is))
+    let here = ap (λ n. element_behind n (drop loop.at s)) p ∙ behind_none (drop loop.at s) in
+    sym (one_element_read s a.list a.i (omega arith) ∙ ap value_of (loop.invariant ∙ here ∙ c.take_element-taken-2.ensures.0 ∙ ap (element_taken s) c.in-Element-taken.is))

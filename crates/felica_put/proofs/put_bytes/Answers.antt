@@ -5,11 +5,11 @@ use Prim.Native.Nat.{◌+◌, ◌<◌}
 use mathlib.Core.Path.{◌≡◌, refl, ◌∙◌}
 use mathlib.Core.List.{[], ◌∷◌}
 use lib.ListN.{length, length-set}
-use Rattle.felica_put.proofs.Laws.{put-more, put-one, put-start, put-last}
+use Rattle.felica_put.proofs.Laws.{put_more, put_one, put_start, put_last}
 use Rattle.felica_put.proofs.put_bytes.Goals as goal
 
 pub loop-i-init : goal.loop-i-init
-loop-i-init c = let a = c.args in (omega arith, refl, put-start a.bytes.now a.out.now a.at)
+loop-i-init c = let a = c.args in (omega arith, refl, put_start a.bytes.now a.out.now a.at)
 
 pub bounds-bytes-i : goal.bounds-bytes-i
 bounds-bytes-i c = omega (arith, c.fitting-count.ensures.0)
@@ -35,7 +35,7 @@ loop-i-preserved c =
     let room : a.at + l.i < length l.out = omega (arith, fits.1, l.invariant.1) in (
       omega arith,
       length-set l.out _ _ ∙ l.invariant.1,
-      put-more (λ xs. xs) (λ x. x ∷ []) (λ x xs. refl) _ _ _ 0 more l.invariant.2 (put-one l.out a.at l.i _ room),
+      put_more (λ xs. xs) (λ x. x ∷ []) (λ x xs. refl) _ _ _ 0 more l.invariant.2 (put_one l.out a.at l.i _ room),
     )
 
 pub overflow_add-result : goal.overflow_add-result
@@ -50,4 +50,4 @@ returns c =
     let l = c.loop-i in
     let fits = c.fitting-count in
     let done : l.i ≡ fits.result = omega arith in
-    put-last a.bytes.now l.out a.out.now a.at l.i fits.result done l.invariant.1 fits.ensures.2 l.invariant.2
+    put_last a.bytes.now l.out a.out.now a.at l.i fits.result done l.invariant.1 fits.ensures.2 l.invariant.2

@@ -2,11 +2,11 @@
 -- Assumes nothing.
 use native.Mathlib.Omega.{arith}
 use mathlib.Core.Path.{sym, ◌∙◌}
-use Rattle.felica_totals.proofs.Room.{room, counted-with-room, kept-without-room}
+use Rattle.felica_totals.proofs.Room.{room, counted_with_room, kept_without_room}
 use Rattle.felica_totals.proofs.count.Goals as goal
 
 pub returns-then-not-has_room : goal.returns-then-not-has_room
-returns-then-not-has_room c = sym (kept-without-room _ _ _ (sym c.has_room.ensures ∙ c.if-not-has_room.true))
+returns-then-not-has_room c = sym (kept_without_room _ _ _ (sym c.has_room.ensures ∙ c.if-not-has_room.true))
 
 pub overflow_add-records : goal.overflow_add-records
 overflow_add-records c = record { fits = omega (arith, (room _ _ (sym c.has_room.ensures ∙ c.if-not-has_room.false)).records) }
@@ -21,7 +21,7 @@ pub overflow_add-result-else-accepted : goal.overflow_add-result-else-accepted
 overflow_add-result-else-accepted c = record { fits = (room _ _ (sym c.has_room.ensures ∙ c.if-not-has_room.false)).refused }
 
 pub returns-then-accepted : goal.returns-then-accepted
-returns-then-accepted c = rw c.if-accepted.true (sym (counted-with-room _ _ _ (sym c.has_room.ensures ∙ c.if-not-has_room.false)))
+returns-then-accepted c = rw c.if-accepted.true (sym (counted_with_room _ _ _ (sym c.has_room.ensures ∙ c.if-not-has_room.false)))
 
 pub returns-else-accepted : goal.returns-else-accepted
-returns-else-accepted c = rw c.if-accepted.false (sym (counted-with-room _ _ _ (sym c.has_room.ensures ∙ c.if-not-has_room.false)))
+returns-else-accepted c = rw c.if-accepted.false (sym (counted_with_room _ _ _ (sym c.has_room.ensures ∙ c.if-not-has_room.false)))

@@ -4,11 +4,11 @@ use Prim.Native.Nat.{ℕ}
 use mathlib.Core.Path.{sym, ap, ◌∙◌}
 use Rattle.felica_format.specs.Command.{Command}
 use Rattle.felica_command.specs.Handed.{handed}
-use Rattle.felica_layout.specs.Layout.{layoutMeant}
-use Rattle.felica_put.proofs.Laws.{put-then}
+use Rattle.felica_layout.specs.Layout.{layout_meant}
+use Rattle.felica_put.proofs.Laws.{put_then}
 use Rattle.felica_write.specs.Writing.{meaning, outcome}
 use Rattle.felica_write.proofs.Ready.{ready}
-use Rattle.felica_write.proofs.Outcome.{few, narrow, no-body, no-room, all-stored, one-byte}
+use Rattle.felica_write.proofs.Outcome.{few, narrow, no_body, no_room, all_stored, one_byte}
 use Rattle.felica_write.proofs.write.Goals as goal
 
 pub returns-then-not-body_ok : goal.returns-then-not-body_ok
@@ -17,7 +17,7 @@ returns-then-not-body_ok c =
     let h = handed a.code a.fixed a.first.now a.second.now a.numbers.now a.places.now a.modes.now a.«data».now a.«package».now in
     let out = a.out.now in
     let row = c.row_of-row in
-    ap (λ r. outcome (meaning r) out) c.refused.ensures ∙ no-body h row.result.class (layoutMeant row.result.layout) row.ensures out (sym (c.body_ok.ensures a.code) ∙ c.if-not-body_ok.true)
+    ap (λ r. outcome (meaning r) out) c.refused.ensures ∙ no_body h row.result.class (layout_meant row.result.layout) row.ensures out (sym (c.body_ok.ensures a.code) ∙ c.if-not-body_ok.true)
 
 pub body_size-size-requires : goal.body_size-size-requires
 body_size-size-requires c =
@@ -25,7 +25,7 @@ body_size-size-requires c =
     let h = handed a.code a.fixed a.first.now a.second.now a.numbers.now a.places.now a.modes.now a.«data».now a.«package».now in
     let row = c.row_of-row in
     let ok = sym (c.body_ok.ensures a.code) ∙ c.if-not-body_ok.false in
-    few _ h (ready _ h (narrow h row.result.class (layoutMeant row.result.layout) row.ensures) ok)
+    few _ h (ready _ h (narrow h row.result.class (layout_meant row.result.layout) row.ensures) ok)
 
 pub returns-in-Refused : goal.returns-in-Refused
 returns-in-Refused c =
@@ -34,17 +34,17 @@ returns-in-Refused c =
     let out = a.out.now in
     let row = c.row_of-row in
     let ok = sym (c.body_ok.ensures a.code) ∙ c.if-not-body_ok.false in
-    ap (λ r. outcome (meaning r) out) c.refused-in-Refused.ensures ∙ no-room h row.result.class (layoutMeant row.result.layout) row.ensures ok _ c.body_size-size.ensures.0 out _ (sym c.room_for-room.ensures ∙ c.in-Refused.is)
+    ap (λ r. outcome (meaning r) out) c.refused-in-Refused.ensures ∙ no_room h row.result.class (layout_meant row.result.layout) row.ensures ok _ c.body_size-size.ensures.0 out _ (sym c.room_for-room.ensures ∙ c.in-Refused.is)
 
 pub put_head-at-requires : goal.put_head-at-requires
-put_head-at-requires c = one-byte _ _ _ _ (sym c.room_for-room.ensures ∙ c.in_default.is)
+put_head-at-requires c = one_byte _ _ _ _ (sym c.room_for-room.ensures ∙ c.in_default.is)
 
 pub put_body-n-requires : goal.put_body-n-requires
 put_body-n-requires c =
     let a = c.args in
     let h : ℕ → Command = λ code. handed code a.fixed a.first.now a.second.now a.numbers.now a.places.now a.modes.now a.«data».now a.«package».now in
     let row = c.row_of-row in
-    ready _ (h 0) (narrow (h a.code) row.result.class (layoutMeant row.result.layout) row.ensures) (sym (c.body_ok.ensures 0) ∙ c.if-not-body_ok.false)
+    ready _ (h 0) (narrow (h a.code) row.result.class (layout_meant row.result.layout) row.ensures) (sym (c.body_ok.ensures 0) ∙ c.if-not-body_ok.false)
 
 pub returns : goal.returns
 returns c =
@@ -53,5 +53,5 @@ returns c =
     let out = a.out.now in
     let row = c.row_of-row in
     let ok = sym (c.body_ok.ensures a.code) ∙ c.if-not-body_ok.false in
-    all-stored h row.result.class (layoutMeant row.result.layout) row.ensures ok _ c.body_size-size.ensures.0 out (sym c.room_for-room.ensures ∙ c.in_default.is) _ _
-    (put-then _ _ _ c.put_head-at.ensures (c.put_body-n.ensures a.code))
+    all_stored h row.result.class (layout_meant row.result.layout) row.ensures ok _ c.body_size-size.ensures.0 out (sym c.room_for-room.ensures ∙ c.in_default.is) _ _
+    (put_then _ _ _ c.put_head-at.ensures (c.put_body-n.ensures a.code))

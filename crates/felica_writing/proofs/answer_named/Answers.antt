@@ -2,15 +2,15 @@
 -- Assumes nothing.
 use mathlib.Core.Path.{ap, ◌∙◌}
 use Rattle.felica_put.specs.Put.{buffer, put}
-use Rattle.felica_named.specs.Handed.{commandNamed}
+use Rattle.felica_named.specs.Handed.{command_named}
 use Rattle.felica_write.specs.Writing.{writing}
-use Rattle.felica_answers.specs.Written.{writtenLine}
-use Rattle.felica_writing.proofs.Lines.{take-zeros, zeros-taken}
+use Rattle.felica_answers.specs.Written.{written_line}
+use Rattle.felica_writing.proofs.Lines.{take_zeros, zeros_taken}
 use Rattle.felica_writing.proofs.answer_named.Goals as goal
 
 pub slice_bounds-answer_from-end-8 : goal.slice_bounds-answer_from-end-8
-slice_bounds-answer_from-end-8 c = zeros-taken c.args.size 16384 c.requires
+slice_bounds-answer_from-end-8 c = zeros_taken c.args.size 16384 c.requires
 
 pub returns : goal.returns
 returns c = let a = c.args in
-    c.answer_from.ensures ∙ ap (λ l. put (buffer a.out.now a.at) (writtenLine (writing (commandNamed a.code a.text.now a.starts.now) l))) (take-zeros a.size 16384 c.requires)
+    c.answer_from.ensures ∙ ap (λ l. put (buffer a.out.now a.at) (written_line (writing (command_named a.code a.text.now a.starts.now) l))) (take_zeros a.size 16384 c.requires)

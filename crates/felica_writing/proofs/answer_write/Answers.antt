@@ -4,23 +4,23 @@ use borrow.Author.Tests.{lt-ltb, le-ltb}
 use mathlib.Core.Path.{ap, ◌∙◌}
 use Rattle.felica_put.specs.Put.{buffer, put}
 use Rattle.felica_named.specs.Names.{names}
-use Rattle.felica_writing.specs.Answer.{writeAnswer}
-use Rattle.felica_writing.proofs.Lines.{whole-line, wrong-line}
+use Rattle.felica_writing.specs.Answer.{write_answer}
+use Rattle.felica_writing.proofs.Lines.{whole_line, wrong_line}
 use Rattle.felica_writing.proofs.answer_write.Goals as goal
 
 pub returns-then-size-gt-MAX_ROOM : goal.returns-then-size-gt-MAX_ROOM
-unfolding writeAnswer
+unfolding write_answer
 returns-then-size-gt-MAX_ROOM c = rw (lt-ltb _ _ c.if-size-gt-MAX_ROOM.true) c.put_fault.ensures
 
 pub answer_named-requires : goal.answer_named-requires
 answer_named-requires c = c.if-size-gt-MAX_ROOM.false
 
 pub returns-in-Whole : goal.returns-in-Whole
-unfolding writeAnswer names
+unfolding write_answer names
 returns-in-Whole c = let a = c.args in
-    rw (le-ltb _ _ c.if-size-gt-MAX_ROOM.false) (c.answer_named.ensures ∙ ap (put (buffer a.out.now a.at)) (whole-line a.size a.code a.text.now c.note_fields-noted.ensures c.in-Whole.is))
+    rw (le-ltb _ _ c.if-size-gt-MAX_ROOM.false) (c.answer_named.ensures ∙ ap (put (buffer a.out.now a.at)) (whole_line a.size a.code a.text.now c.note_fields-noted.ensures c.in-Whole.is))
 
 pub returns-in-Wrong : goal.returns-in-Wrong
-unfolding writeAnswer names
+unfolding write_answer names
 returns-in-Wrong c = let a = c.args in
-    rw (le-ltb _ _ c.if-size-gt-MAX_ROOM.false) (c.put_fault-in-Wrong.ensures ∙ ap (put (buffer a.out.now a.at)) (wrong-line a.size a.code a.text.now c.note_fields-noted.ensures c.in-Wrong.is))
+    rw (le-ltb _ _ c.if-size-gt-MAX_ROOM.false) (c.put_fault-in-Wrong.ensures ∙ ap (put (buffer a.out.now a.at)) (wrong_line a.size a.code a.text.now c.note_fields-noted.ensures c.in-Wrong.is))

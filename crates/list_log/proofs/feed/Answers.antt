@@ -7,13 +7,13 @@ use borrow.Author.Tests.{eqb-false}
 use lib.Seq.{length-take-le}
 use Rattle.felica_put.specs.Put.{buffer}
 use Rattle.felica_log.specs.Rules.{Sound}
-use Rattle.felica_log.proofs.Rules.{sound-start, nothing-left-over}
-use Rattle.list_log.specs.Held.{tooLong}
-use Rattle.list_log.proofs.Held.{none-kept, not-over, held-short, read-none, read-failed, read-turn, goes-on, all-read}
+use Rattle.felica_log.proofs.Rules.{sound_start, nothing_left_over}
+use Rattle.list_log.specs.Held.{too_long}
+use Rattle.list_log.proofs.Held.{none_kept, not_over, held_short, read_none, read_failed, read_turn, goes_on, all_read_once_over}
 use Rattle.list_log.proofs.feed.Goals as goal
 
 pub loop-turns-init : goal.loop-turns-init
-loop-turns-init g c = (omega arith, omega arith, refl, refl, subst Sound (sym c.new-totals.ensures) sound-start, nothing-left-over c.new-totals.result _ refl, (read-none _ _ c.new-totals.result _ c.new-totals.ensures, omega arith), omega arith)
+loop-turns-init g c = (omega arith, omega arith, refl, refl, subst Sound (sym c.new-totals.ensures) sound_start, nothing_left_over c.new-totals.result _ refl, (read_none _ _ c.new-totals.result _ c.new-totals.ensures, omega arith), omega arith)
 
 pub read_piece-read-requires : goal.read_piece-read-requires
 read_piece-read-requires g c = let loop = c.loop-turns in omega (arith, loop.invariant.7, loop.invariant.2, c.requires.0)
@@ -33,7 +33,7 @@ returns-then-read g c =
         omega (arith, loop.invariant.0, c.read_piece-read.auto.input),
         loop.invariant.1,
         loop.invariant.4,
-        λ _. read-failed _ _ _ _ _ _ _ loop.held _ loop.input _ (c.read_piece-read.ensures.failed c.if-read.true) c.read_piece-read.ensures.counts.2 c.read_piece-read.ensures.bytes loop.invariant.6.0,
+        λ _. read_failed _ _ _ _ _ _ _ loop.held _ loop.input _ (c.read_piece-read.ensures.failed c.if-read.true) c.read_piece-read.ensures.counts.2 c.read_piece-read.ensures.bytes loop.invariant.6.0,
         λ e _. absurd (true≢false e),
       );
     })
@@ -55,8 +55,8 @@ returns-then-is_over g c =
     let listed = c.list_input-state.ensures in
     let read = c.read_piece-read.ensures in
     record {
-      all = λ _ e. all-read _ _ _ _ _ _ _ _ loop.held _ _ (sym c.is_over.ensures ∙ c.if-is_over.true) e (sym (length-take-le _ _ listed.0)) (read.end c.if-read.false) (read-turn _ _ _ _ _ _ loop.totals (buffer loop.out loop.waiting) loop.input _ loop.held _ _ _ _ c.read_piece-read.ensures.counts.1 c.read_piece-read.ensures.counts.0 c.read_piece-read.ensures.counts.2 c.read_piece-read.ensures.bytes loop.invariant.6.0 (listed.3 e)).0;
-      listed = (listed.0, listed.1, listed.2, λ e. (read-turn _ _ _ _ _ _ loop.totals (buffer loop.out loop.waiting) loop.input _ loop.held _ _ _ _ c.read_piece-read.ensures.counts.1 c.read_piece-read.ensures.counts.0 c.read_piece-read.ensures.counts.2 c.read_piece-read.ensures.bytes loop.invariant.6.0 (listed.3 e)).0, λ _ e. none-kept _ _ _ _ _ _ _ _ (listed.3 e));
+      all = λ _ e. all_read_once_over _ _ _ _ _ _ _ _ loop.held _ _ (sym c.is_over.ensures ∙ c.if-is_over.true) e (sym (length-take-le _ _ listed.0)) (read.end c.if-read.false) (read_turn _ _ _ _ _ _ loop.totals (buffer loop.out loop.waiting) loop.input _ loop.held _ _ _ _ c.read_piece-read.ensures.counts.1 c.read_piece-read.ensures.counts.0 c.read_piece-read.ensures.counts.2 c.read_piece-read.ensures.bytes loop.invariant.6.0 (listed.3 e)).0;
+      listed = (listed.0, listed.1, listed.2, λ e. (read_turn _ _ _ _ _ _ loop.totals (buffer loop.out loop.waiting) loop.input _ loop.held _ _ _ _ c.read_piece-read.ensures.counts.1 c.read_piece-read.ensures.counts.0 c.read_piece-read.ensures.counts.2 c.read_piece-read.ensures.bytes loop.invariant.6.0 (listed.3 e)).0, λ _ e. none_kept _ _ _ _ _ _ _ _ (listed.3 e));
     }
 
 pub overflow_sub-turns : goal.overflow_sub-turns
@@ -69,17 +69,17 @@ pub loop-turns-preserved : goal.loop-turns-preserved
 loop-turns-preserved g c =
     let loop = c.loop-turns in
     let listed = c.list_input-state.ensures in
-    let written = not-over _ _ _ _ (sym c.is_over.ensures ∙ c.if-is_over.false) in
-    let apart = eqb-false _ _ (goes-on _ _ _ _ (sym c.is_over.ensures ∙ c.if-is_over.false)) in
-    let turn = read-turn _ _ _ _ _ _ loop.totals (buffer loop.out loop.waiting) loop.input _ loop.held _ _ _ _ c.read_piece-read.ensures.counts.1 c.read_piece-read.ensures.counts.0 c.read_piece-read.ensures.counts.2 c.read_piece-read.ensures.bytes loop.invariant.6.0 (listed.3 written) in (
+    let written = not_over _ _ _ _ (sym c.is_over.ensures ∙ c.if-is_over.false) in
+    let apart = eqb-false _ _ (goes_on _ _ _ _ (sym c.is_over.ensures ∙ c.if-is_over.false)) in
+    let turn = read_turn _ _ _ _ _ _ loop.totals (buffer loop.out loop.waiting) loop.input _ loop.held _ _ _ _ c.read_piece-read.ensures.counts.1 c.read_piece-read.ensures.counts.0 c.read_piece-read.ensures.counts.2 c.read_piece-read.ensures.bytes loop.invariant.6.0 (listed.3 written) in (
       listed.0,
       omega (arith, listed.1),
       c.list_input-state.auto.input ∙ c.read_piece-read.auto.input ∙ loop.invariant.2,
       c.list_input-state.auto.out ∙ loop.invariant.3,
       listed.2,
-      none-kept _ _ _ _ _ _ _ _ (listed.3 written),
+      none_kept _ _ _ _ _ _ _ _ (listed.3 written),
       (turn.0, omega (arith, turn.1, loop.invariant.6.1, apart, c.read_piece-read.ensures.counts.1)),
-      held-short _ _ _ _ c.list_input-state.new.input (sym c.is_over.ensures ∙ c.if-is_over.false) (none-kept _ _ _ _ _ _ _ _ (listed.3 written)) listed.0 (omega (arith, c.type_inv.input 0)),
+      held_short _ _ _ _ c.list_input-state.new.input (sym c.is_over.ensures ∙ c.if-is_over.false) (none_kept _ _ _ _ _ _ _ _ (listed.3 written)) listed.0 (omega (arith, c.type_inv.input 0)),
     )
 
 pub shape_of-input : goal.shape_of-input
@@ -92,6 +92,6 @@ pub returns : goal.returns
 returns g c =
     let loop = c.loop-turns in
     rw c.of-2.ensures (record {
-      all = λ _ _. (loop.invariant.6.0, tooLong (omega (arith, loop.invariant.6.1, c.loop-turns-test.false)));
+      all = λ _ _. (loop.invariant.6.0, too_long (omega (arith, loop.invariant.6.1, c.loop-turns-test.false)));
       listed = (loop.invariant.0, loop.invariant.1, loop.invariant.4, λ _. loop.invariant.6.0, λ _ _. loop.invariant.5);
     })

@@ -5,7 +5,7 @@ use Prim.Native.Nat.{◌-◌, ◌≤◌}
 use mathlib.Core.Path.{sym, ap, ◌∙◌}
 use lib.ListN.{take}
 use lib.Seq.{length-take-le}
-use Rattle.list_log.proofs.Held.{rest-moved}
+use Rattle.list_log.proofs.Held.{rest_moved}
 use Rattle.list_log.proofs.list_input.Goals as goal
 
 pub slice_bounds-list_held-end-2 : goal.slice_bounds-list_held-end-2
@@ -27,6 +27,6 @@ returns g c =
       λ e. (
         c.list_held-listed.result.used,
         listed.3 e,
-        ap (take (a.held - c.list_held-listed.result.used)) c.keep_rest.ensures ∙ rest-moved a.input.now c.list_held-listed.result.used a.held inside c.requires.0,
+        ap (take (a.held - c.list_held-listed.result.used)) c.keep_rest.ensures ∙ rest_moved a.input.now c.list_held-listed.result.used a.held inside c.requires.0,
       ),
     )

@@ -3,8 +3,8 @@
 use mathlib.Core.Path.{sym, ap, ◌∙◌}
 use lib.Seq.{length-take-le}
 use Rattle.felica_put.specs.Put.{put}
-use Rattle.felica.specs.Source.{readingOf, payloadIn}
-use Rattle.felica.proofs.Listed.{line-from}
+use Rattle.felica.specs.Source.{reading_of, payload_in}
+use Rattle.felica.proofs.Listed.{line_first}
 use Rattle.felica.proofs.lists.answer_from.Goals as goal
 
 pub slice_bounds-list-end-2 : goal.slice_bounds-list-end-2
@@ -26,5 +26,5 @@ pub returns : goal.returns
 returns c =
     let w = c.list-parsed in
     let a = c.args in
-    let s = payloadIn a.source a.bytes.now in
-    c.put_listed.ensures ∙ ap (put _) (line-from s (readingOf a.source a.bytes.now) a.sizes _ _ _ _ _ w.result _ c.requires w.ensures.0 w.ensures.1)
+    let s = payload_in a.source a.bytes.now in
+    c.put_listed.ensures ∙ ap (put _) (line_first s (reading_of a.source a.bytes.now) a.sizes _ _ _ _ _ w.result _ c.requires w.ensures.0 w.ensures.1)

@@ -1,7 +1,7 @@
 -- `felica_answers::fields::put_areas_and_services` meets its contract: field after field.
 -- Assumes nothing.
-use Rattle.felica_put.proofs.Laws.{put-then}
+use Rattle.felica_put.proofs.Laws.{put_then}
 use Rattle.felica_answers.proofs.fields.put_areas_and_services.Goals as goal
 
 pub returns : goal.returns
-returns c = put-then _ _ _ c.put_first-next.ensures c.put_codes_field.ensures
+returns c = put_then _ _ _ c.put_first-next.ensures c.put_codes_field.ensures

@@ -3,8 +3,8 @@
 use native.Mathlib.Omega.{arith}
 use mathlib.Core.Path.{refl, sym, ap, ◌∙◌}
 use lib.ListN.{drop_of_length-le}
-use Rattle.felica_calls.specs.Bytes.{allDigits}
-use Rattle.felica_calls.proofs.Reading.{no-digit, a-digit}
+use Rattle.felica_calls.specs.Bytes.{all_digits}
+use Rattle.felica_calls.proofs.Reading.{no_digit, a_digit}
 use Rattle.felica_calls.proofs.bytes.all_digits.Goals as goal
 
 pub loop-i-init : goal.loop-i-init
@@ -14,7 +14,7 @@ pub bounds-field-i : goal.bounds-field-i
 bounds-field-i c = omega arith
 
 pub returns-in-NoDigit : goal.returns-in-NoDigit
-returns-in-NoDigit c = sym (no-digit _ _ c.loop-i-test.true (sym c.digit_value-digit.ensures ∙ c.in-NoDigit.is)) ∙ c.loop-i.invariant.1
+returns-in-NoDigit c = sym (no_digit _ _ c.loop-i-test.true (sym c.digit_value-digit.ensures ∙ c.in-NoDigit.is)) ∙ c.loop-i.invariant.1
 
 pub overflow_add-i : goal.overflow_add-i
 overflow_add-i c = omega arith
@@ -23,8 +23,8 @@ pub loop-i-smaller : goal.loop-i-smaller
 loop-i-smaller c = omega arith
 
 pub loop-i-preserved : goal.loop-i-preserved
-loop-i-preserved c = (omega arith, sym (a-digit _ _ c.loop-i-test.true (sym c.digit_value-digit.ensures ∙ c.in_default.is)) ∙ c.loop-i.invariant.1)
+loop-i-preserved c = (omega arith, sym (a_digit _ _ c.loop-i-test.true (sym c.digit_value-digit.ensures ∙ c.in_default.is)) ∙ c.loop-i.invariant.1)
 
 pub returns : goal.returns
-unfolding allDigits
-returns c = sym (ap allDigits (drop_of_length-le _ c.loop-i-test.false)) ∙ c.loop-i.invariant.1
+unfolding all_digits
+returns c = sym (ap all_digits (drop_of_length-le _ c.loop-i-test.false)) ∙ c.loop-i.invariant.1

@@ -3,11 +3,11 @@
 use Prim.Native.Nat.{◌-◌, ◌≤◌}
 use mathlib.Core.Path.{◌≡◌}
 use lib.ListN.{length, drop}
-use Rattle.felica_calls.specs.Bytes.{allDigits}
+use Rattle.felica_calls.specs.Bytes.{all_digits}
 use Rattle.felica_calls.proofs.bytes.all_digits.Given as goal
 
 abbrev pub invariant-loop-i : goal.invariant-loop-i
-invariant-loop-i l = (l.i ≤ length l.field) × (allDigits (drop l.i l.field) ≡ allDigits l.field)
+invariant-loop-i l = (l.i ≤ length l.field) × (all_digits (drop l.i l.field) ≡ all_digits l.field)
 
 abbrev pub decreases-loop-i : goal.decreases-loop-i
 decreases-loop-i l = length l.field - l.i

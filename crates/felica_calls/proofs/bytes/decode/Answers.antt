@@ -3,8 +3,8 @@
 use native.Mathlib.Omega.{arith}
 use mathlib.Core.Path.{refl, sym, ap, ◌∙◌}
 use Rattle.felica_put.specs.Put.{put}
-use Rattle.felica_put.proofs.Laws.{put-rest, put-none}
-use Rattle.felica_calls.proofs.Reading.{bytes-next, bytes-end}
+use Rattle.felica_put.proofs.Laws.{put_rest, put_none}
+use Rattle.felica_calls.proofs.Reading.{bytes_next, bytes_end}
 use Rattle.felica_calls.proofs.bytes.decode.Goals as goal
 
 pub loop-i-init : goal.loop-i-init
@@ -34,11 +34,11 @@ loop-i-smaller c = omega arith
 pub loop-i-preserved : goal.loop-i-preserved
 loop-i-preserved c = let l = c.loop-i in
     let w = c.put_byte-next in
-    let e = bytes-next c.args.field.now l.i (omega arith) in
-    (omega arith, w.auto.out ∙ l.invariant.1, put-rest _ _ _ (ap (put _) (sym e) ∙ l.invariant.2) (rw c.byte_of.ensures at w.ensures))
+    let e = bytes_next c.args.field.now l.i (omega arith) in
+    (omega arith, w.auto.out ∙ l.invariant.1, put_rest _ _ _ (ap (put _) (sym e) ∙ l.invariant.2) (rw c.byte_of.ensures at w.ensures))
 
 pub shape_of-bytes : goal.shape_of-bytes
 shape_of-bytes c = c.loop-i.invariant.1
 
 pub returns : goal.returns
-returns c = put-none _ _ (bytes-end c.args.field.now c.loop-i.i c.loop-i-test.false) c.loop-i.invariant.2
+returns c = put_none _ _ (bytes_end c.args.field.now c.loop-i.i c.loop-i-test.false) c.loop-i.invariant.2

@@ -1,8 +1,8 @@
 -- `element_size` meets its contract.
 -- Assumes nothing.
 use native.Mathlib.Omega.{arith}
-use Rattle.felica_cursor.proofs.Few.{size-by-bit}
+use Rattle.felica_cursor.proofs.Few.{size_by_bit}
 use Rattle.felica_cursor.proofs.cursor.element_size.Goals as goal
 
 pub returns : goal.returns
-returns c = size-by-bit c.args.header (omega arith)
+returns c = size_by_bit c.args.header (omega arith)

@@ -5,7 +5,7 @@ use mathlib.Core.Path.{◌≡◌, refl}
 use native.Mathlib.Nat.{zero-add}
 use native.Mathlib.Omega.{arith}
 use Rattle.felica_format.specs.Basic.{zeros}
-use Rattle.felica_cursor.proofs.Laws.{paste-more, drop-zeros}
+use Rattle.felica_cursor.proofs.Laws.{paste_more, drop_zeros}
 use Rattle.felica_cursor.proofs.endings.challenge_at.Goals as goal
 
 pub loop-i-init : goal.loop-i-init
@@ -16,9 +16,9 @@ loop-i-preserved c =
     let s = c.args.payload.now in
     let at = c.args.at in
     let i = c.loop-i.i in
-    (search rules, paste-more (zeros 16) s at c.loop-i.challenge i (omega arith) (omega arith) c.loop-i.invariant.1)
+    (search rules, paste_more (zeros 16) s at c.loop-i.challenge i (omega arith) (omega arith) c.loop-i.invariant.1)
 
 pub returns : goal.returns
 returns c =
     let e : c.loop-i.i ≡ c.args.count = omega arith in
-    rw (c.loop-i.invariant.1, e, zero-add, drop-zeros c.args.count 16 (omega arith))
+    rw (c.loop-i.invariant.1, e, zero-add, drop_zeros c.args.count 16 (omega arith))

@@ -1,7 +1,7 @@
 -- `felica_fields::field::put_word_field` meets its contract: the name, then the value.
 -- Assumes nothing.
-use Rattle.felica_put.proofs.Laws.{put-then}
+use Rattle.felica_put.proofs.Laws.{put_then}
 use Rattle.felica_fields.proofs.field.put_word_field.Goals as goal
 
 pub returns : goal.returns
-returns c = put-then _ _ _ c.put_bytes-next.ensures c.put_hex_word.ensures
+returns c = put_then _ _ _ c.put_bytes-next.ensures c.put_hex_word.ensures

@@ -2,12 +2,12 @@
 -- Assumes nothing.
 use native.Mathlib.Omega.{arith}
 use mathlib.Core.Path.{refl, sym, ap, ◌∙◌}
-use Rattle.felica_format.specs.Read.{readElement}
+use Rattle.felica_format.specs.Read.{read_element}
 use Rattle.felica_put.specs.Put.{put}
-use Rattle.felica_fields.specs.Entries.{formedText}
-use Rattle.felica_put.proofs.Laws.{put-then, put-rest, put-none}
-use Rattle.felica_fields.proofs.Entries.{more-next, more-end, more-none}
-use Rattle.felica_cursor.specs.Steps.{elementTaken}
+use Rattle.felica_fields.specs.Entries.{formed_text}
+use Rattle.felica_put.proofs.Laws.{put_then, put_rest, put_none}
+use Rattle.felica_fields.proofs.Entries.{more_next, more_end, more_none}
+use Rattle.felica_cursor.specs.Steps.{element_taken}
 use Rattle.felica_fields.proofs.list.put_more_blocks.Goals as goal
 
 pub loop-left-init : goal.loop-left-init
@@ -17,7 +17,7 @@ pub shape_of-out-in_default : goal.shape_of-out-in_default
 shape_of-out-in_default c = c.loop-left.invariant.0
 
 pub returns-in_default : goal.returns-in_default
-returns-in_default c = put-none _ _ (more-end readElement formedText _ _ (c.take_element-taken.ensures.0 ∙ ap (elementTaken _) c.in_default.is)) c.loop-left.invariant.1
+returns-in_default c = put_none _ _ (more_end read_element formed_text _ _ (c.take_element-taken.ensures.0 ∙ ap (element_taken _) c.in_default.is)) c.loop-left.invariant.1
 
 pub overflow_sub-left : goal.overflow_sub-left
 overflow_sub-left c = omega arith
@@ -29,11 +29,11 @@ pub loop-left-preserved : goal.loop-left-preserved
 loop-left-preserved c = let l = c.loop-left in
     let w = c.put_byte-next in
     let x = c.put_block-next in
-    let e = more-next readElement formedText _ _ c.loop-left-test.true (c.take_element-taken.ensures.0 ∙ ap (elementTaken _) c.in-Element.is) in
-    (x.auto.out ∙ w.auto.out ∙ l.invariant.0, put-rest _ _ _ (ap (put _) (sym e) ∙ l.invariant.1) (put-then _ _ _ w.ensures x.ensures))
+    let e = more_next read_element formed_text _ _ c.loop-left-test.true (c.take_element-taken.ensures.0 ∙ ap (element_taken _) c.in-Element.is) in
+    (x.auto.out ∙ w.auto.out ∙ l.invariant.0, put_rest _ _ _ (ap (put _) (sym e) ∙ l.invariant.1) (put_then _ _ _ w.ensures x.ensures))
 
 pub shape_of-out : goal.shape_of-out
 shape_of-out c = c.loop-left.invariant.0
 
 pub returns : goal.returns
-returns c = put-none _ _ (more-none readElement formedText _ _ c.loop-left-test.false) c.loop-left.invariant.1
+returns c = put_none _ _ (more_none read_element formed_text _ _ c.loop-left-test.false) c.loop-left.invariant.1

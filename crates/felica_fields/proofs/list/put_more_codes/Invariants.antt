@@ -2,13 +2,13 @@
 -- Assumes nothing.
 use mathlib.Core.Path.{◌≡◌}
 use lib.ListN.{length, drop}
-use Rattle.felica_text.specs.Text.{wordText, behindCommas}
+use Rattle.felica_text.specs.Text.{word_text, behind_commas}
 use Rattle.felica_put.specs.Put.{buffer, put}
-use Rattle.felica_fields.specs.Entries.{readCode, entriesOf}
+use Rattle.felica_fields.specs.Entries.{read_code, entries_of}
 use Rattle.felica_fields.proofs.list.put_more_codes.Given as goal
 
 abbrev pub invariant-loop-left : goal.invariant-loop-left
-invariant-loop-left l = (length l.out ≡ length l.initial.out) × (put (buffer l.out l.next) (behindCommas wordText (entriesOf readCode l.left (drop l.place l.payload))) ≡ put (buffer l.initial.out l.at) (behindCommas wordText (entriesOf readCode l.count (drop l.start l.payload))))
+invariant-loop-left l = (length l.out ≡ length l.initial.out) × (put (buffer l.out l.next) (behind_commas word_text (entries_of read_code l.left (drop l.place l.payload))) ≡ put (buffer l.initial.out l.at) (behind_commas word_text (entries_of read_code l.count (drop l.start l.payload))))
 
 abbrev pub decreases-loop-left : goal.decreases-loop-left
 decreases-loop-left l = l.left

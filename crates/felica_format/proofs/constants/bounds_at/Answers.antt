@@ -2,13 +2,13 @@
 -- Assumes nothing.
 use mathlib.Core.Path.{sym, ap}
 use lib.ListN.{get_or-map, get_or-eq_default}
-use Rattle.felica_format.specs.Layout.{plainRows, boundsAt, boundsOf, ends, bare, ◌is◌}
+use Rattle.felica_format.specs.Layout.{plain_rows, bounds_at, bounds_of, ends, bare, ◌is◌}
 use Rattle.felica_format.proofs.constants.bounds_at.Goals as goal
 
 pub returns-then-row-lt25 : goal.returns-then-row-lt25
-unfolding boundsAt plainRows
-returns-then-row-lt25 c = get_or-map (λ row. boundsOf row.layout.first) plainRows c.args.row (0 is ends bare)
+unfolding bounds_at plain_rows
+returns-then-row-lt25 c = get_or-map (λ row. bounds_of row.layout.first) plain_rows c.args.row (0 is ends bare)
 
 pub returns-else-row-lt25 : goal.returns-else-row-lt25
-unfolding boundsAt plainRows
-returns-else-row-lt25 c = sym (ap (λ row. boundsOf row.layout.first) (get_or-eq_default plainRows (0 is ends bare) c.if-row-lt25.false))
+unfolding bounds_at plain_rows
+returns-else-row-lt25 c = sym (ap (λ row. bounds_of row.layout.first) (get_or-eq_default plain_rows (0 is ends bare) c.if-row-lt25.false))

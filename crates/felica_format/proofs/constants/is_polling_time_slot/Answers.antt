@@ -3,13 +3,13 @@
 use native.Mathlib.Omega.{arith}
 use borrow.Author.Tests.{lt-ltb, le-ltb}
 use Rattle.felica_format.specs.Basic.{◌and◌}
-use Rattle.felica_format.specs.Read.{isTimeSlots}
+use Rattle.felica_format.specs.Read.{is_time_slots}
 use Rattle.felica_format.proofs.constants.is_polling_time_slot.Goals as goal
 
 pub returns-then-value-lt16 : goal.returns-then-value-lt16
-unfolding isTimeSlots ◌and◌
+unfolding is_time_slots ◌and◌
 returns-then-value-lt16 c = rw (lt-ltb c.args.value 16 (omega arith))
 
 pub returns-else-value-lt16 : goal.returns-else-value-lt16
-unfolding isTimeSlots ◌and◌
+unfolding is_time_slots ◌and◌
 returns-else-value-lt16 c = rw (le-ltb c.args.value 16 (omega arith))

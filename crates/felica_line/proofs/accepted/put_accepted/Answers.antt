@@ -2,10 +2,10 @@
 -- Assumes nothing.
 use native.Mathlib.Omega.{arith}
 use mathlib.Core.Path.{sym, ap, ◌∙◌}
-use Rattle.felica_put.proofs.Laws.{put-then, put-same}
-use Rattle.felica_text.specs.Text.{decimalText}
-use Rattle.felica_line.specs.Line.{acceptedText}
-use Rattle.felica_line.proofs.Marks.{codes-counted}
+use Rattle.felica_put.proofs.Laws.{put_then, put_same}
+use Rattle.felica_text.specs.Text.{decimal_text}
+use Rattle.felica_line.specs.Line.{accepted_text}
+use Rattle.felica_line.proofs.Marks.{codes_counted}
 use Rattle.felica_line.proofs.accepted.put_accepted.Goals as goal
 
 pub overflow_add-first : goal.overflow_add-first
@@ -28,16 +28,16 @@ shape_of-out c =
     ∙ c.put_bytes-code_at.auto.out
 
 pub returns : goal.returns
-unfolding acceptedText
+unfolding accepted_text
 returns c =
     let a = c.args in
-    let count = put-same _ _ _ c.put_decimal-codes_end.ensures (ap decimalText (sym (codes-counted a.payload.now a.first a.second))) in
-    put-then _ _ _ c.put_bytes-code_at.ensures
-    (put-then _ _ _ c.put_hex_byte-code_end.ensures
-    (put-then _ _ _ c.put_byte-codes_at.ensures
-    (put-then _ _ _ count
-    (put-then _ _ _ c.put_byte-blocks_at.ensures
-    (put-then _ _ _ c.put_decimal-blocks_end.ensures
-    (put-then _ _ _ c.put_byte-long_at.ensures
-    (put-then _ _ _ c.put_decimal-long_end.ensures
-    (put-then _ _ _ c.put_byte-marks_at.ensures c.put_mark_field.ensures))))))))
+    let count = put_same _ _ _ c.put_decimal-codes_end.ensures (ap decimal_text (sym (codes_counted a.payload.now a.first a.second))) in
+    put_then _ _ _ c.put_bytes-code_at.ensures
+    (put_then _ _ _ c.put_hex_byte-code_end.ensures
+    (put_then _ _ _ c.put_byte-codes_at.ensures
+    (put_then _ _ _ count
+    (put_then _ _ _ c.put_byte-blocks_at.ensures
+    (put_then _ _ _ c.put_decimal-blocks_end.ensures
+    (put_then _ _ _ c.put_byte-long_at.ensures
+    (put_then _ _ _ c.put_decimal-long_end.ensures
+    (put_then _ _ _ c.put_byte-marks_at.ensures c.put_mark_field.ensures))))))))

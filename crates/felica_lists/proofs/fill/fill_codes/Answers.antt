@@ -5,10 +5,10 @@ use Prim.Native.Nat.{◌+◌, ◌-◌}
 use native.Mathlib.Nat.{sub-zero}
 use native.Mathlib.Omega.{arith}
 use lib.ListN.{length-set}
-use Rattle.felica_command.specs.Meaning.{codesAt}
-use Rattle.felica_command.proofs.Inside.{wordsOf-length}
-use Rattle.felica_cursor.proofs.Laws.{words-next, no-words}
-use Rattle.felica_lists.proofs.Laws.{store-more, store-done}
+use Rattle.felica_command.specs.Meaning.{codes_at}
+use Rattle.felica_command.proofs.Inside.{words_of_length}
+use Rattle.felica_cursor.proofs.Laws.{words_next, no_words}
+use Rattle.felica_lists.proofs.Laws.{store_more, store_done}
 use Rattle.felica_lists.proofs.fill.fill_codes.Goals as goal
 
 pub loop-i-init : goal.loop-i-init
@@ -42,8 +42,8 @@ pub loop-i-preserved : goal.loop-i-preserved
 loop-i-preserved c =
     let loop = c.loop-i in
     let a = c.args in
-    let next = words-next a.payload.now loop.at (a.list.count - loop.i) (a.list.count - (loop.i + 1)) (omega arith) in
-    (omega arith, omega arith, simp length-set loop.invariant.2, store-more loop.out loop.i next c.word_of.ensures loop.invariant.3)
+    let next = words_next a.payload.now loop.at (a.list.count - loop.i) (a.list.count - (loop.i + 1)) (omega arith) in
+    (omega arith, omega arith, simp length-set loop.invariant.2, store_more loop.out loop.i next c.word_of.ensures loop.invariant.3)
 
 pub shape_of-out : goal.shape_of-out
 shape_of-out c = c.loop-i.invariant.2
@@ -52,5 +52,5 @@ pub returns : goal.returns
 returns c =
     let loop = c.loop-i in
     let a = c.args in
-    let all = codesAt a.payload.now a.list in
-    store-done loop.out loop.i a.out.now all (no-words _ _ (omega arith)) (rw wordsOf-length (omega arith)) loop.invariant.3
+    let all = codes_at a.payload.now a.list in
+    store_done loop.out loop.i a.out.now all (no_words _ _ (omega arith)) (rw words_of_length (omega arith)) loop.invariant.3

@@ -2,7 +2,7 @@
 -- Assumes nothing.
 use native.Mathlib.Omega.{arith}
 use mathlib.Core.Path.{refl, sym, ◌∙◌}
-use Rattle.felica_named.proofs.Entries.{entry-bad, entry-next, entry-none, entry-digit, entry-end}
+use Rattle.felica_named.proofs.Entries.{entry_bad, entry_next, entry_none, entry_digit, entry_end}
 use Rattle.felica_named.proofs.form.are_entries.Goals as goal
 
 pub loop-i-init : goal.loop-i-init
@@ -15,16 +15,16 @@ pub overflow_add-i : goal.overflow_add-i
 overflow_add-i c = omega arith
 
 pub returns-then-not-is_entry : goal.returns-then-not-is_entry
-returns-then-not-is_entry c = sym (entry-bad _ _ _ _ _ c.loop-i-test.true c.if-byte-eq44.true (sym c.is_entry.ensures ∙ c.if-not-is_entry.true)) ∙ c.loop-i.invariant.2
+returns-then-not-is_entry c = sym (entry_bad _ _ _ _ _ c.loop-i-test.true c.if-byte-eq44.true (sym c.is_entry.ensures ∙ c.if-not-is_entry.true)) ∙ c.loop-i.invariant.2
 
 pub loop-i-smaller-then-byte-eq44 : goal.loop-i-smaller-then-byte-eq44
 loop-i-smaller-then-byte-eq44 c = omega arith
 
 pub loop-i-preserved-then-byte-eq44 : goal.loop-i-preserved-then-byte-eq44
-loop-i-preserved-then-byte-eq44 c = (omega arith, omega arith, sym (entry-next _ _ _ _ _ c.loop-i-test.true c.if-byte-eq44.true (sym c.is_entry.ensures ∙ c.if-not-is_entry.false)) ∙ c.loop-i.invariant.2)
+loop-i-preserved-then-byte-eq44 c = (omega arith, omega arith, sym (entry_next _ _ _ _ _ c.loop-i-test.true c.if-byte-eq44.true (sym c.is_entry.ensures ∙ c.if-not-is_entry.false)) ∙ c.loop-i.invariant.2)
 
 pub returns-in-NoDigit : goal.returns-in-NoDigit
-returns-in-NoDigit c = sym (entry-none _ _ _ _ _ c.loop-i-test.true c.if-byte-eq44.false (sym c.digit_value-digit.ensures ∙ c.in-NoDigit.is)) ∙ c.loop-i.invariant.2
+returns-in-NoDigit c = sym (entry_none _ _ _ _ _ c.loop-i-test.true c.if-byte-eq44.false (sym c.digit_value-digit.ensures ∙ c.in-NoDigit.is)) ∙ c.loop-i.invariant.2
 
 pub overflow_add-count : goal.overflow_add-count
 overflow_add-count c = omega arith
@@ -33,7 +33,7 @@ pub loop-i-smaller : goal.loop-i-smaller
 loop-i-smaller c = omega arith
 
 pub loop-i-preserved : goal.loop-i-preserved
-loop-i-preserved c = (omega arith, omega arith, sym (entry-digit _ _ _ _ _ c.loop-i-test.true c.if-byte-eq44.false (sym c.digit_value-digit.ensures ∙ c.in_default.is)) ∙ c.loop-i.invariant.2)
+loop-i-preserved c = (omega arith, omega arith, sym (entry_digit _ _ _ _ _ c.loop-i-test.true c.if-byte-eq44.false (sym c.digit_value-digit.ensures ∙ c.in_default.is)) ∙ c.loop-i.invariant.2)
 
 pub returns : goal.returns
-returns c = c.is_entry-2.ensures ∙ sym (entry-end _ _ _ _ _ c.loop-i-test.false) ∙ c.loop-i.invariant.2
+returns c = c.is_entry-2.ensures ∙ sym (entry_end _ _ _ _ _ c.loop-i-test.false) ∙ c.loop-i.invariant.2

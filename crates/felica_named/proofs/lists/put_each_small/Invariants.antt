@@ -4,11 +4,11 @@ use Prim.Native.Nat.{◌-◌, ◌≤◌}
 use mathlib.Core.Path.{◌≡◌}
 use lib.ListN.{length, drop}
 use Rattle.felica_put.specs.Put.{buffer, put}
-use Rattle.felica_named.specs.Values.{numbersFrom}
+use Rattle.felica_named.specs.Values.{numbers_from}
 use Rattle.felica_named.proofs.lists.put_each_small.Given as goal
 
 abbrev pub invariant-loop-i : goal.invariant-loop-i
-invariant-loop-i l = (l.i ≤ length l.value) × (length l.numbers ≡ length l.initial.numbers) × (put (buffer l.numbers l.next) (numbersFrom 16 l.number (drop l.i l.value)) ≡ put (buffer l.initial.numbers 0) (numbersFrom 16 0 l.value))
+invariant-loop-i l = (l.i ≤ length l.value) × (length l.numbers ≡ length l.initial.numbers) × (put (buffer l.numbers l.next) (numbers_from 16 l.number (drop l.i l.value)) ≡ put (buffer l.initial.numbers 0) (numbers_from 16 0 l.value))
 
 abbrev pub decreases-loop-i : goal.decreases-loop-i
 decreases-loop-i l = length l.value - l.i

@@ -3,11 +3,11 @@
 use Prim.Native.Nat.{◌-◌, ◌≤◌}
 use mathlib.Core.Path.{◌≡◌}
 use lib.ListN.{length, drop}
-use Rattle.felica_named.specs.Names.{beginsWith}
+use Rattle.felica_named.specs.Names.{begins_with}
 use Rattle.felica_named.proofs.names.begins_with.Given as goal
 
 abbrev pub invariant-loop-i : goal.invariant-loop-i
-invariant-loop-i l = (l.i ≤ length l.key) × (beginsWith (drop l.i l.key) (drop l.i l.text) ≡ beginsWith l.key l.text)
+invariant-loop-i l = (l.i ≤ length l.key) × (begins_with (drop l.i l.key) (drop l.i l.text) ≡ begins_with l.key l.text)
 
 abbrev pub decreases-loop-i : goal.decreases-loop-i
 decreases-loop-i l = length l.key - l.i

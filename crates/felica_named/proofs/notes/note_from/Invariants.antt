@@ -3,11 +3,11 @@
 use Prim.Native.Nat.{ℕ, ◌+◌, ◌-◌, ◌≤◌}
 use mathlib.Core.Path.{◌≡◌}
 use lib.ListN.{length}
-use Rattle.felica_named.specs.Notes.{noteFrom}
+use Rattle.felica_named.specs.Notes.{note_from}
 use Rattle.felica_named.proofs.notes.note_from.Given as goal
 
 abbrev pub invariant-loop-at : goal.invariant-loop-at
-invariant-loop-at l = (l.at ≤ length l.text) × (length l.starts ≡ length l.initial.starts) × ((turns : ℕ) × (length l.text ≤ l.at + turns) × (noteFrom turns l.table l.text l.at l.starts ≡ noteFrom (length l.text) l.table l.text 0 l.initial.starts))
+invariant-loop-at l = (l.at ≤ length l.text) × (length l.starts ≡ length l.initial.starts) × ((turns : ℕ) × (length l.text ≤ l.at + turns) × (note_from turns l.table l.text l.at l.starts ≡ note_from (length l.text) l.table l.text 0 l.initial.starts))
 
 abbrev pub decreases-loop-at : goal.decreases-loop-at
 decreases-loop-at l = length l.text - l.at

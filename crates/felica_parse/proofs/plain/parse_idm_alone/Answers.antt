@@ -3,38 +3,38 @@
 use mathlib.Core.Path.{refl, ap, ◌∙◌}
 use lib.ListN.{drop}
 use Rattle.felica_format.specs.Basic.{zeros}
-use Rattle.felica_format.specs.Read.{wordsOf, readEach}
-use Rattle.felica_command.specs.Places.{layoutPlaces}
-use Rattle.felica_cursor.specs.Answers.{movedGround}
-use Rattle.felica_cursor.proofs.Walk.{on, stop, body, no-selector, no-codes, no-elements, no-data, no-package, refused-at, accepted-at}
-use Rattle.felica_cursor.proofs.Walk.{idmStep, endStep}
-use Rattle.felica_parse.proofs.Layouts.{idm-alone-layout}
+use Rattle.felica_format.specs.Read.{words_of, read_each}
+use Rattle.felica_command.specs.Places.{layout_places}
+use Rattle.felica_cursor.specs.Answers.{moved_ground}
+use Rattle.felica_cursor.proofs.Walk.{on, stop, body, no_selector_read, no_codes_read, no_elements, no_data, no_package, refused_at, accepted_at}
+use Rattle.felica_cursor.proofs.Walk.{idm_step, end_step}
+use Rattle.felica_parse.proofs.Layouts.{idm_alone_layout}
 use Rattle.felica_parse.proofs.plain.parse_idm_alone.Goals as goal
 
 pub returns-in_default : goal.returns-in_default
 returns-in_default c =
     let s = c.args.payload.now in
-    let idm = c.take_idm-first.ensures.0 ∙ ap (idmStep s c.take_idm-first.result.idm) c.in_default.is in
-    refused-at s 1 c.args.command_code _ _ _ _ (idm-alone-layout c.args.command_code c.requires)
+    let idm = c.take_idm-first.ensures.0 ∙ ap (idm_step s c.take_idm-first.result.idm) c.in_default.is in
+    refused_at s 1 c.args.command_code _ _ _ _ (idm_alone_layout c.args.command_code c.requires)
     (body c.args.command_code _ (drop 1 s) ∙ stop _ idm)
-    (c.ground.ensures ∙ ap movedGround c.in_default.is) c.refused.ensures
+    (c.ground.ensures ∙ ap moved_ground c.in_default.is) c.refused.ensures
 
 pub returns-in_default-end : goal.returns-in_default-end
 returns-in_default-end c =
     let s = c.args.payload.now in
-    let idm = c.take_idm-first.ensures.0 ∙ ap (idmStep s c.take_idm-first.result.idm) c.in-On.is in
-    let ending = c.take_end-end.ensures.0 ∙ ap (endStep s (zeros 16)) c.in_default-end.is in
-    refused-at s 1 c.args.command_code _ _ _ _ (idm-alone-layout c.args.command_code c.requires)
-    (body c.args.command_code _ (drop 1 s) ∙ on _ idm (on _ (no-selector _) (on _ (no-codes _ _ _) (on _ (no-codes _ _ _) (on _ (no-elements _ _ _) (on _ (no-data _ _) (stop _ ending)))))))
-    (c.ground-in_default-end.ensures ∙ ap movedGround c.in_default-end.is) c.refused-in_default-end.ensures
+    let idm = c.take_idm-first.ensures.0 ∙ ap (idm_step s c.take_idm-first.result.idm) c.in-On.is in
+    let ending = c.take_end-end.ensures.0 ∙ ap (end_step s (zeros 16)) c.in_default-end.is in
+    refused_at s 1 c.args.command_code _ _ _ _ (idm_alone_layout c.args.command_code c.requires)
+    (body c.args.command_code _ (drop 1 s) ∙ on _ idm (on _ (no_selector_read _) (on _ (no_codes_read _ _ _) (on _ (no_codes_read _ _ _) (on _ (no_elements _ _ _) (on _ (no_data _ _) (stop _ ending)))))))
+    (c.ground-in_default-end.ensures ∙ ap moved_ground c.in_default-end.is) c.refused-in_default-end.ensures
 
 pub returns : goal.returns
-unfolding layoutPlaces wordsOf readEach
+unfolding layout_places words_of read_each
 returns c =
     let s = c.args.payload.now in
-    let idm = c.take_idm-first.ensures.0 ∙ ap (idmStep s c.take_idm-first.result.idm) c.in-On.is in
-    let ending = c.take_end-end.ensures.0 ∙ ap (endStep s (zeros 16)) c.in-On-end.is in
-    accepted-at s 1 c.args.command_code _ c.idm_alone_kind-kind.result _ c.take_idm-first.result.idm (zeros 16) 0 _ _ _ refl (idm-alone-layout c.args.command_code c.requires) c.idm_alone_kind-kind.ensures
-    (body c.args.command_code _ (drop 1 s) ∙ on _ idm (on _ (no-selector _) (on _ (no-codes _ _ _) (on _ (no-codes _ _ _) (on _ (no-elements _ _ _) (on _ (no-data _ _) (on _ ending (on _ (no-package _) refl))))))))
+    let idm = c.take_idm-first.ensures.0 ∙ ap (idm_step s c.take_idm-first.result.idm) c.in-On.is in
+    let ending = c.take_end-end.ensures.0 ∙ ap (end_step s (zeros 16)) c.in-On-end.is in
+    accepted_at s 1 c.args.command_code _ c.idm_alone_kind-kind.result _ c.take_idm-first.result.idm (zeros 16) 0 _ _ _ refl (idm_alone_layout c.args.command_code c.requires) c.idm_alone_kind-kind.ensures
+    (body c.args.command_code _ (drop 1 s) ∙ on _ idm (on _ (no_selector_read _) (on _ (no_codes_read _ _ _) (on _ (no_codes_read _ _ _) (on _ (no_elements _ _ _) (on _ (no_data _ _) (on _ ending (on _ (no_package _) refl))))))))
     refl refl
     refl refl

@@ -3,39 +3,39 @@
 use mathlib.Core.Path.{refl, ap, ◌∙◌}
 use lib.ListN.{drop}
 use Rattle.felica_format.specs.Basic.{zeros}
-use Rattle.felica_format.specs.Read.{wordsOf, readEach}
-use Rattle.felica_command.specs.Places.{layoutPlaces}
-use Rattle.felica_cursor.specs.Answers.{movedGround, wordsGround}
+use Rattle.felica_format.specs.Read.{words_of, read_each}
+use Rattle.felica_command.specs.Places.{layout_places}
+use Rattle.felica_cursor.specs.Answers.{moved_ground, words_ground}
 use Rattle.felica_command.specs.declared.command.FelicaStandardCommand.TheVariants.{RequestCodeList}
-use Rattle.felica_cursor.proofs.Walk.{on, stop, body, no-selector, no-codes, no-elements, no-data, no-package, refused-at, accepted-at}
-use Rattle.felica_cursor.proofs.Walk.{idmStep, wordsStep}
-use Rattle.felica_parse.proofs.Layouts.{layout-1A}
+use Rattle.felica_cursor.proofs.Walk.{on, stop, body, no_selector_read, no_codes_read, no_elements, no_data, no_package, refused_at, accepted_at}
+use Rattle.felica_cursor.proofs.Walk.{idm_step, words_step}
+use Rattle.felica_parse.proofs.Layouts.{layout_1a}
 use Rattle.felica_parse.proofs.plain.parse_request_code_list.Goals as goal
 
 pub returns-in_default : goal.returns-in_default
 returns-in_default c =
     let s = c.args.payload.now in
-    let idm = c.take_idm-first.ensures.0 ∙ ap (idmStep s c.take_idm-first.result.idm) c.in_default.is in
-    refused-at s 1 0x1A _ _ _ _ layout-1A
+    let idm = c.take_idm-first.ensures.0 ∙ ap (idm_step s c.take_idm-first.result.idm) c.in_default.is in
+    refused_at s 1 0x1A _ _ _ _ layout_1a
     (body 0x1A _ (drop 1 s) ∙ stop _ idm)
-    (c.ground.ensures ∙ ap movedGround c.in_default.is) c.refused.ensures
+    (c.ground.ensures ∙ ap moved_ground c.in_default.is) c.refused.ensures
 
 pub returns-in_default-taken : goal.returns-in_default-taken
 returns-in_default-taken c =
     let s = c.args.payload.now in
-    let idm = c.take_idm-first.ensures.0 ∙ ap (idmStep s c.take_idm-first.result.idm) c.in-On.is in
-    let ending = c.take_words-taken.ensures.0 ∙ ap (wordsStep s) c.in_default-taken.is in
-    refused-at s 1 0x1A _ _ _ _ layout-1A
-    (body 0x1A _ (drop 1 s) ∙ on _ idm (on _ (no-selector _) (on _ (no-codes _ _ _) (on _ (no-codes _ _ _) (on _ (no-elements _ _ _) (on _ (no-data _ _) (stop _ ending)))))))
-    (c.ground-in_default-taken.ensures ∙ ap wordsGround c.in_default-taken.is) c.refused-in_default-taken.ensures
+    let idm = c.take_idm-first.ensures.0 ∙ ap (idm_step s c.take_idm-first.result.idm) c.in-On.is in
+    let ending = c.take_words-taken.ensures.0 ∙ ap (words_step s) c.in_default-taken.is in
+    refused_at s 1 0x1A _ _ _ _ layout_1a
+    (body 0x1A _ (drop 1 s) ∙ on _ idm (on _ (no_selector_read _) (on _ (no_codes_read _ _ _) (on _ (no_codes_read _ _ _) (on _ (no_elements _ _ _) (on _ (no_data _ _) (stop _ ending)))))))
+    (c.ground-in_default-taken.ensures ∙ ap words_ground c.in_default-taken.is) c.refused-in_default-taken.ensures
 
 pub returns : goal.returns
-unfolding layoutPlaces wordsOf readEach
+unfolding layout_places words_of read_each
 returns c =
     let s = c.args.payload.now in
-    let idm = c.take_idm-first.ensures.0 ∙ ap (idmStep s c.take_idm-first.result.idm) c.in-On.is in
-    let ending = c.take_words-taken.ensures.0 ∙ ap (wordsStep s) c.in-Words.is in
-    accepted-at s 1 0x1A _ (RequestCodeList (record { 0 = c.in-Words.parent }) c.in-Words.index) _ c.take_idm-first.result.idm (zeros 16) 0 _ _ _ refl layout-1A refl
-    (body 0x1A _ (drop 1 s) ∙ on _ idm (on _ (no-selector _) (on _ (no-codes _ _ _) (on _ (no-codes _ _ _) (on _ (no-elements _ _ _) (on _ (no-data _ _) (on _ ending (on _ (no-package _) refl))))))))
+    let idm = c.take_idm-first.ensures.0 ∙ ap (idm_step s c.take_idm-first.result.idm) c.in-On.is in
+    let ending = c.take_words-taken.ensures.0 ∙ ap (words_step s) c.in-Words.is in
+    accepted_at s 1 0x1A _ (RequestCodeList (record { 0 = c.in-Words.parent }) c.in-Words.index) _ c.take_idm-first.result.idm (zeros 16) 0 _ _ _ refl layout_1a refl
+    (body 0x1A _ (drop 1 s) ∙ on _ idm (on _ (no_selector_read _) (on _ (no_codes_read _ _ _) (on _ (no_codes_read _ _ _) (on _ (no_elements _ _ _) (on _ (no_data _ _) (on _ ending (on _ (no_package _) refl))))))))
     refl refl
     refl refl

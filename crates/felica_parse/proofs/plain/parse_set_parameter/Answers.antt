@@ -3,39 +3,39 @@
 use mathlib.Core.Path.{refl, ap, ◌∙◌}
 use lib.ListN.{drop}
 use Rattle.felica_format.specs.Basic.{zeros}
-use Rattle.felica_format.specs.Read.{wordsOf, readEach}
-use Rattle.felica_command.specs.Places.{layoutPlaces}
-use Rattle.felica_cursor.specs.Answers.{movedGround, parameterGround}
+use Rattle.felica_format.specs.Read.{words_of, read_each}
+use Rattle.felica_command.specs.Places.{layout_places}
+use Rattle.felica_cursor.specs.Answers.{moved_ground, parameter_ground}
 use Rattle.felica_command.specs.declared.command.FelicaStandardCommand.TheVariants.{SetParameter}
-use Rattle.felica_cursor.proofs.Walk.{on, stop, body, no-selector, no-codes, no-elements, no-data, no-package, refused-at, accepted-at}
-use Rattle.felica_cursor.proofs.Walk.{idmStep, parameterStep}
-use Rattle.felica_parse.proofs.Layouts.{layout-20}
+use Rattle.felica_cursor.proofs.Walk.{on, stop, body, no_selector_read, no_codes_read, no_elements, no_data, no_package, refused_at, accepted_at}
+use Rattle.felica_cursor.proofs.Walk.{idm_step, parameter_step}
+use Rattle.felica_parse.proofs.Layouts.{layout_20}
 use Rattle.felica_parse.proofs.plain.parse_set_parameter.Goals as goal
 
 pub returns-in_default : goal.returns-in_default
 returns-in_default c =
     let s = c.args.payload.now in
-    let idm = c.take_idm-first.ensures.0 ∙ ap (idmStep s c.take_idm-first.result.idm) c.in_default.is in
-    refused-at s 1 0x20 _ _ _ _ layout-20
+    let idm = c.take_idm-first.ensures.0 ∙ ap (idm_step s c.take_idm-first.result.idm) c.in_default.is in
+    refused_at s 1 0x20 _ _ _ _ layout_20
     (body 0x20 _ (drop 1 s) ∙ stop _ idm)
-    (c.ground.ensures ∙ ap movedGround c.in_default.is) c.refused.ensures
+    (c.ground.ensures ∙ ap moved_ground c.in_default.is) c.refused.ensures
 
 pub returns-in_default-taken : goal.returns-in_default-taken
 returns-in_default-taken c =
     let s = c.args.payload.now in
-    let idm = c.take_idm-first.ensures.0 ∙ ap (idmStep s c.take_idm-first.result.idm) c.in-On.is in
-    let ending = c.take_parameter-taken.ensures.0 ∙ ap (parameterStep s) c.in_default-taken.is in
-    refused-at s 1 0x20 _ _ _ _ layout-20
-    (body 0x20 _ (drop 1 s) ∙ on _ idm (on _ (no-selector _) (on _ (no-codes _ _ _) (on _ (no-codes _ _ _) (on _ (no-elements _ _ _) (on _ (no-data _ _) (stop _ ending)))))))
-    (c.ground-in_default-taken.ensures ∙ ap parameterGround c.in_default-taken.is) c.refused-in_default-taken.ensures
+    let idm = c.take_idm-first.ensures.0 ∙ ap (idm_step s c.take_idm-first.result.idm) c.in-On.is in
+    let ending = c.take_parameter-taken.ensures.0 ∙ ap (parameter_step s) c.in_default-taken.is in
+    refused_at s 1 0x20 _ _ _ _ layout_20
+    (body 0x20 _ (drop 1 s) ∙ on _ idm (on _ (no_selector_read _) (on _ (no_codes_read _ _ _) (on _ (no_codes_read _ _ _) (on _ (no_elements _ _ _) (on _ (no_data _ _) (stop _ ending)))))))
+    (c.ground-in_default-taken.ensures ∙ ap parameter_ground c.in_default-taken.is) c.refused-in_default-taken.ensures
 
 pub returns : goal.returns
-unfolding layoutPlaces wordsOf readEach
+unfolding layout_places words_of read_each
 returns c =
     let s = c.args.payload.now in
-    let idm = c.take_idm-first.ensures.0 ∙ ap (idmStep s c.take_idm-first.result.idm) c.in-On.is in
-    let ending = c.take_parameter-taken.ensures.0 ∙ ap (parameterStep s) c.in-Types.is in
-    accepted-at s 1 0x20 _ (SetParameter c.in-Types.encryption_type c.in-Types.packet_type) _ c.take_idm-first.result.idm (zeros 16) 0 _ _ _ refl layout-20 refl
-    (body 0x20 _ (drop 1 s) ∙ on _ idm (on _ (no-selector _) (on _ (no-codes _ _ _) (on _ (no-codes _ _ _) (on _ (no-elements _ _ _) (on _ (no-data _ _) (on _ ending (on _ (no-package _) refl))))))))
+    let idm = c.take_idm-first.ensures.0 ∙ ap (idm_step s c.take_idm-first.result.idm) c.in-On.is in
+    let ending = c.take_parameter-taken.ensures.0 ∙ ap (parameter_step s) c.in-Types.is in
+    accepted_at s 1 0x20 _ (SetParameter c.in-Types.encryption_type c.in-Types.packet_type) _ c.take_idm-first.result.idm (zeros 16) 0 _ _ _ refl layout_20 refl
+    (body 0x20 _ (drop 1 s) ∙ on _ idm (on _ (no_selector_read _) (on _ (no_codes_read _ _ _) (on _ (no_codes_read _ _ _) (on _ (no_elements _ _ _) (on _ (no_data _ _) (on _ ending (on _ (no_package _) refl))))))))
     refl refl
     refl refl

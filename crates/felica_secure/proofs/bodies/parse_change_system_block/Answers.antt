@@ -3,29 +3,29 @@
 use mathlib.Core.Path.{refl, ap, ◌∙◌}
 use lib.ListN.{drop}
 use Rattle.felica_format.specs.Basic.{zeros}
-use Rattle.felica_format.specs.Read.{wordsOf, readEach}
-use Rattle.felica_command.specs.Places.{layoutPlaces}
-use Rattle.felica_cursor.specs.Answers.{movedGround}
+use Rattle.felica_format.specs.Read.{words_of, read_each}
+use Rattle.felica_command.specs.Places.{layout_places}
+use Rattle.felica_cursor.specs.Answers.{moved_ground}
 use Rattle.felica_command.specs.declared.command.FelicaStandardCommand.TheVariants.{ChangeSystemBlock}
-use Rattle.felica_cursor.proofs.Walk.{on, stop, body, no-idm, no-selector, no-codes, no-elements, no-data, no-package, refused-at, accepted-at}
-use Rattle.felica_cursor.proofs.Walk.{endStep}
-use Rattle.felica_secure.proofs.Layouts.{layout-8E}
+use Rattle.felica_cursor.proofs.Walk.{on, stop, body, no_idm, no_selector_read, no_codes_read, no_elements, no_data, no_package, refused_at, accepted_at}
+use Rattle.felica_cursor.proofs.Walk.{end_step}
+use Rattle.felica_secure.proofs.Layouts.{layout_8e}
 use Rattle.felica_secure.proofs.bodies.parse_change_system_block.Goals as goal
 
 pub returns-in_default : goal.returns-in_default
 returns-in_default c =
     let s = c.args.payload.now in
-    let ending = c.take_end-end.ensures.0 ∙ ap (endStep s (zeros 16)) c.in_default.is in
-    refused-at s 0 0x8E _ _ _ _ layout-8E
-    (body 0x8E _ (drop 0 s) ∙ on _ (no-idm _) (on _ (no-selector _) (on _ (no-codes _ _ _) (on _ (no-codes _ _ _) (on _ (no-elements _ _ _) (on _ (no-data _ _) (stop _ ending)))))))
-    (c.ground.ensures ∙ ap movedGround c.in_default.is) c.refused.ensures
+    let ending = c.take_end-end.ensures.0 ∙ ap (end_step s (zeros 16)) c.in_default.is in
+    refused_at s 0 0x8E _ _ _ _ layout_8e
+    (body 0x8E _ (drop 0 s) ∙ on _ (no_idm _) (on _ (no_selector_read _) (on _ (no_codes_read _ _ _) (on _ (no_codes_read _ _ _) (on _ (no_elements _ _ _) (on _ (no_data _ _) (stop _ ending)))))))
+    (c.ground.ensures ∙ ap moved_ground c.in_default.is) c.refused.ensures
 
 pub returns : goal.returns
-unfolding layoutPlaces wordsOf readEach
+unfolding layout_places words_of read_each
 returns c =
     let s = c.args.payload.now in
-    let ending = c.take_end-end.ensures.0 ∙ ap (endStep s (zeros 16)) c.in-On.is in
-    accepted-at s 0 0x8E _ ChangeSystemBlock _ (zeros 8) (zeros 16) 0 _ _ _ refl layout-8E refl
-    (body 0x8E _ (drop 0 s) ∙ on _ (no-idm _) (on _ (no-selector _) (on _ (no-codes _ _ _) (on _ (no-codes _ _ _) (on _ (no-elements _ _ _) (on _ (no-data _ _) (on _ ending (on _ (no-package _) refl))))))))
+    let ending = c.take_end-end.ensures.0 ∙ ap (end_step s (zeros 16)) c.in-On.is in
+    accepted_at s 0 0x8E _ ChangeSystemBlock _ (zeros 8) (zeros 16) 0 _ _ _ refl layout_8e refl
+    (body 0x8E _ (drop 0 s) ∙ on _ (no_idm _) (on _ (no_selector_read _) (on _ (no_codes_read _ _ _) (on _ (no_codes_read _ _ _) (on _ (no_elements _ _ _) (on _ (no_data _ _) (on _ ending (on _ (no_package _) refl))))))))
     refl refl
     refl refl

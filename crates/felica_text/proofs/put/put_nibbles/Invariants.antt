@@ -3,12 +3,12 @@
 use Prim.Native.Nat.{◌-◌, ◌≤◌}
 use mathlib.Core.Path.{◌≡◌}
 use lib.ListN.{length, drop}
-use Rattle.felica_text.specs.Text.{nibbleText, behindCommas}
+use Rattle.felica_text.specs.Text.{nibble_text, behind_commas}
 use Rattle.felica_put.specs.Put.{buffer, put}
 use Rattle.felica_text.proofs.put.put_nibbles.Given as goal
 
 abbrev pub invariant-loop-i : goal.invariant-loop-i
-invariant-loop-i l = (l.i ≤ length l.nibbles) × (length l.out ≡ length l.initial.out) × (put (buffer l.out l.next) (behindCommas nibbleText (drop l.i l.nibbles)) ≡ put (buffer l.initial.out l.initial.next) (behindCommas nibbleText (drop 1 l.nibbles)))
+invariant-loop-i l = (l.i ≤ length l.nibbles) × (length l.out ≡ length l.initial.out) × (put (buffer l.out l.next) (behind_commas nibble_text (drop l.i l.nibbles)) ≡ put (buffer l.initial.out l.initial.next) (behind_commas nibble_text (drop 1 l.nibbles)))
 
 abbrev pub decreases-loop-i : goal.decreases-loop-i
 decreases-loop-i l = length l.nibbles - l.i

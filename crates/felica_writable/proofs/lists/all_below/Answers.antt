@@ -3,8 +3,8 @@
 use native.Mathlib.Omega.{arith}
 use mathlib.Core.Path.{refl, sym, ap, ◌∙◌}
 use lib.ListN.{drop_of_length-le}
-use Rattle.felica_format.specs.Basic.{allBelow}
-use Rattle.felica_writable.proofs.Laws.{below-next, below-stop}
+use Rattle.felica_format.specs.Basic.{all_below}
+use Rattle.felica_writable.proofs.Laws.{below_next, below_stop}
 use Rattle.felica_writable.proofs.lists.all_below.Goals as goal
 
 pub loop-i-init : goal.loop-i-init
@@ -16,7 +16,7 @@ bounds-list-i c = omega arith
 pub returns-then-bound-list : goal.returns-then-bound-list
 returns-then-bound-list c =
     let l = c.loop-i in
-    sym (below-stop _ _ l.i (omega arith) c.if-bound-list.true) ∙ l.invariant.1
+    sym (below_stop _ _ l.i (omega arith) c.if-bound-list.true) ∙ l.invariant.1
 
 pub overflow_add-i : goal.overflow_add-i
 overflow_add-i c = omega arith
@@ -27,10 +27,10 @@ loop-i-smaller c = omega arith
 pub loop-i-preserved : goal.loop-i-preserved
 loop-i-preserved c =
     let l = c.loop-i in
-    (omega arith, sym (below-next _ _ l.i (omega arith) c.if-bound-list.false) ∙ l.invariant.1)
+    (omega arith, sym (below_next _ _ l.i (omega arith) c.if-bound-list.false) ∙ l.invariant.1)
 
 pub returns : goal.returns
 returns c =
     let list = c.args.list.now in
     let l = c.loop-i in
-    sym (ap (allBelow c.args.bound) (drop_of_length-le list {i = l.i} c.loop-i-test.false)) ∙ l.invariant.1
+    sym (ap (all_below c.args.bound) (drop_of_length-le list {i = l.i} c.loop-i-test.false)) ∙ l.invariant.1

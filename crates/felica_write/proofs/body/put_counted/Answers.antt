@@ -2,9 +2,9 @@
 -- Assumes nothing.
 use native.Mathlib.Omega.{arith}
 use mathlib.Core.Path.{refl, ◌∙◌}
-use Rattle.felica_format.specs.Basic.{wordBytes}
-use Rattle.felica_format.specs.Write.{wordsBytes}
-use Rattle.felica_put.proofs.Laws.{put-then, put-more, put-done}
+use Rattle.felica_format.specs.Basic.{word_bytes}
+use Rattle.felica_format.specs.Write.{words_bytes}
+use Rattle.felica_put.proofs.Laws.{put_then, put_more, put_done}
 use Rattle.felica_write.proofs.body.put_counted.Goals as goal
 
 pub overflow_cast-list : goal.overflow_cast-list
@@ -26,18 +26,18 @@ pub loop-i-smaller : goal.loop-i-smaller
 loop-i-smaller c = omega arith
 
 pub loop-i-preserved : goal.loop-i-preserved
-unfolding wordsBytes
+unfolding words_bytes
 loop-i-preserved c =
     let l = c.loop-i in
     let w = c.put_word-next in (
       omega arith,
       w.auto.out ∙ l.invariant.1,
-      put-more wordsBytes wordBytes (λ a rest. refl) _ _ _ 0 c.loop-i-test.true l.invariant.2 w.ensures,
+      put_more words_bytes word_bytes (λ a rest. refl) _ _ _ 0 c.loop-i-test.true l.invariant.2 w.ensures,
     )
 
 pub shape_of-out : goal.shape_of-out
 shape_of-out c = c.loop-i.invariant.1 ∙ c.put_byte-next.auto.out
 
 pub returns : goal.returns
-unfolding wordsBytes
-returns c = put-then _ _ _ c.put_byte-next.ensures (put-done wordsBytes _ _ _ refl c.loop-i-test.false c.loop-i.invariant.2)
+unfolding words_bytes
+returns c = put_then _ _ _ c.put_byte-next.ensures (put_done words_bytes _ _ _ refl c.loop-i-test.false c.loop-i.invariant.2)

@@ -1,7 +1,7 @@
 -- `felica_write::size::short_size` meets its contract.
 -- Assumes nothing.
 use native.Mathlib.Omega.{arith}
-use Rattle.felica_write.proofs.Elements.{size-bound, size-next, size-done}
+use Rattle.felica_write.proofs.Elements.{size_bound, size_next, size_done}
 use Rattle.felica_write.proofs.size.short_size.Goals as goal
 
 pub loop-i-init : goal.loop-i-init
@@ -17,7 +17,7 @@ pub overflow_add-size : goal.overflow_add-size
 overflow_add-size c =
     let ns = c.args.numbers.now in
     let l = c.loop-i in
-    omega (arith, size-next ns l.i c.loop-i-test.true, size-bound ns, l.invariant.1, c.element_size-size.ensures, c.requires)
+    omega (arith, size_next ns l.i c.loop-i-test.true, size_bound ns, l.invariant.1, c.element_size-size.ensures, c.requires)
 
 pub overflow_add-i : goal.overflow_add-i
 overflow_add-i c = omega arith
@@ -29,11 +29,11 @@ pub loop-i-preserved : goal.loop-i-preserved
 loop-i-preserved c =
     let ns = c.args.numbers.now in
     let l = c.loop-i in
-    (omega arith, omega (arith, size-next ns l.i c.loop-i-test.true, l.invariant.1, c.element_size-size.ensures))
+    (omega arith, omega (arith, size_next ns l.i c.loop-i-test.true, l.invariant.1, c.element_size-size.ensures))
 
 pub returns : goal.returns
 returns c =
     let l = c.loop-i in
     let ns = c.args.numbers.now in
-    let done = size-done ns l.i c.loop-i-test.false in
-    (omega (arith, done, l.invariant.1), omega (arith, done, l.invariant.1, size-bound ns, c.requires))
+    let done = size_done ns l.i c.loop-i-test.false in
+    (omega (arith, done, l.invariant.1), omega (arith, done, l.invariant.1, size_bound ns, c.requires))

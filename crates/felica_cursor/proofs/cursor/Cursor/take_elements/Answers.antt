@@ -6,54 +6,54 @@ use mathlib.Core.Path.{◌≡◌, refl, sym, ap, ◌∙◌, subst}
 use mathlib.Core.List.{[], ◌∷◌, ◌++◌}
 use lib.ListN.{length, drop, length-append}
 use Rattle.felica_format.specs.Basic.{refuse}
-use Rattle.felica_format.specs.Command.{longCount}
-use Rattle.felica_format.specs.Read.{formed, readElement}
-use Rattle.felica_format.proofs.Elements.{long-few}
-use Rattle.felica_command.specs.Types.{elementIs}
-use Rattle.felica_command.proofs.Inside.{each-leaves}
-use Rattle.felica_cursor.specs.Steps.{elementTaken, ElementPlaced}
+use Rattle.felica_format.specs.Command.{long_count}
+use Rattle.felica_format.specs.Read.{formed, read_element}
+use Rattle.felica_format.proofs.Elements.{long_few}
+use Rattle.felica_command.specs.Types.{element_is}
+use Rattle.felica_command.proofs.Inside.{each_leaves}
+use Rattle.felica_cursor.specs.Steps.{element_taken, ElementPlaced}
 use Rattle.felica_cursor.specs.declared.answers.ElementTaken.{ElementTaken}
-use Rattle.felica_cursor.proofs.Laws.{size-more, size-done}
-use Rattle.felica_cursor.proofs.Blocks.{before-none, each-more, each-refused, each-done, long-more, form-size}
+use Rattle.felica_cursor.proofs.Laws.{size_more, size_done}
+use Rattle.felica_cursor.proofs.Blocks.{before_none, each_more, each_refused, each_done, long_more, form_size}
 use Rattle.felica_cursor.proofs.cursor.Cursor.take_elements.Goals as goal
 
 pub loop-left-init : goal.loop-left-init
-loop-left-init c = (([], before-none _, omega arith, omega arith), refl)
+loop-left-init c = (([], before_none _, omega arith, omega arith), refl)
 
 pub returns-in_default : goal.returns-in_default
 returns-in_default c =
     let l = c.loop-left in
     let s = c.args.payload.now in
-    let refused : readElement (drop l.at s) ≡ refuse c.ground.result = simp (c.take_element-taken.ensures.0, c.in_default.is, c.ground.ensures) in
+    let refused : read_element (drop l.at s) ≡ refuse c.ground.result = simp (c.take_element-taken.ensures.0, c.in_default.is, c.ground.ensures) in
     let more : l.left ≡ suc (l.left - 1) = omega arith in
-    (l.invariant.0.1 ∙ each-refused l.invariant.0.0 l.left (l.left - 1) c.ground.result (drop l.at s) more refused, tt)
+    (l.invariant.0.1 ∙ each_refused l.invariant.0.0 l.left (l.left - 1) c.ground.result (drop l.at s) more refused, tt)
 
 pub loop-left-preserved : goal.loop-left-preserved
 loop-left-preserved c =
     let l = c.loop-left in
     let s = c.args.payload.now in
     let (done, read, place, count) = l.invariant.0 in
-    let e = formed c.in-Element.field-1 (elementIs c.in-Element.field-0) in
+    let e = formed c.in-Element.field-1 (element_is c.in-Element.field-0) in
     let next = c.in-Element.next.at in
     let more : l.left ≡ suc (l.left - 1) = omega arith in
-    let took = c.take_element-taken.ensures.0 ∙ ap (elementTaken s) c.in-Element.is in
+    let took = c.take_element-taken.ensures.0 ∙ ap (element_taken s) c.in-Element.is in
     let placed = subst (λ (x : ElementTaken). ElementPlaced s l.at x) c.in-Element.is c.take_element-taken.ensures.1 in
-    let size = form-size s l.at e _ took in
-    let long = long-more done e in
+    let size = form_size s l.at e _ took in
+    let long = long_more done e in
     let longer : length (done ++ (e ∷ [])) ≡ length done + 1 = length-append done (e ∷ []) in (
       (
         done ++ (e ∷ []),
-        read ∙ each-more done e l.left (l.left - 1) (drop l.at s) (drop next s) more took,
+        read ∙ each_more done e l.left (l.left - 1) (drop l.at s) (drop next s) more took,
         omega (arith, placed, size, long, place, longer),
         omega (arith, count, more, longer),
       ),
-      l.invariant.1 ∙ size-more s l.at next l.left (l.left - 1) more placed,
+      l.invariant.1 ∙ size_more s l.at next l.left (l.left - 1) more placed,
     )
 
 pub long_count-long-requires : goal.long_count-long-requires
 long_count-long-requires c =
     let (done, read, place, count) = c.loop-left.invariant.0 in
-    let few = long-few done in
+    let few = long_few done in
     (omega (arith, few, place, count), omega (arith, few, place, count))
 
 pub returns : goal.returns
@@ -62,6 +62,6 @@ returns c =
     let s = c.args.payload.now in
     let (done, read, place, count) = l.invariant.0 in
     let none : l.left ≡ 0 = omega arith in
-    let all = read ∙ each-done done l.left (drop l.at s) none in
-    let long : c.long_count-long.result ≡ longCount done = omega (arith, c.long_count-long.ensures, place, count, none) in
-    (rw all refl, (refl, rw all (each-leaves _ _ _ _ all).1, sym (l.invariant.1 ∙ size-done s l.at l.left none), rw all long))
+    let all = read ∙ each_done done l.left (drop l.at s) none in
+    let long : c.long_count-long.result ≡ long_count done = omega (arith, c.long_count-long.ensures, place, count, none) in
+    (rw all refl, (refl, rw all (each_leaves _ _ _ _ all).1, sym (l.invariant.1 ∙ size_done s l.at l.left none), rw all long))

@@ -4,17 +4,17 @@ use mathlib.Core.Path.{◌≡◌, refl, subst}
 use Prim.Native.Nat.{ℕ, ◌+◌, ◌-◌, ◌≤◌, ◌<◌, suc}
 use native.Mathlib.Omega.{arith}
 use lib.ListN.{length, get_or}
-use Rattle.felica_format.specs.Command.{longCount}
-use Rattle.felica_command.specs.Places.{elementSize}
-use Rattle.felica_command.proofs.Inside.{each-leaves}
-use Rattle.felica_cursor.proofs.Few.{size-most, Walk, walk-none, walk-more, walk-cut, walk-done, walk-lacks}
+use Rattle.felica_format.specs.Command.{long_count}
+use Rattle.felica_command.specs.Places.{element_size}
+use Rattle.felica_command.proofs.Inside.{each_leaves}
+use Rattle.felica_cursor.proofs.Few.{size_most, Walk, walk_none, walk_more, walk_cut, walk_done, walk_lacks}
 use Rattle.felica_cursor.proofs.cursor.Cursor.take_few.Goals as goal
 
 pub loop-left-init : goal.loop-left-init
 loop-left-init c =
     let args = c.args in
     let same : args.self.at ≡ args.self.at - 1 + 1 = omega arith in
-    subst (λ (at : ℕ). Walk args.payload.now args.self.at args.count at args.count) same (walk-none args.payload.now args.self.at args.count (omega arith))
+    subst (λ (at : ℕ). Walk args.payload.now args.self.at args.count at args.count) same (walk_none args.payload.now args.self.at args.count (omega arith))
 
 pub returns-then-limit-taken : goal.returns-then-limit-taken
 returns-then-limit-taken c =
@@ -23,7 +23,7 @@ returns-then-limit-taken c =
     let s = args.payload.now in
     let more : loop.left ≡ suc (loop.left - 1) = omega arith in
     let few : length s < loop.taken + 1 + 2 = omega arith in (
-      walk-cut s args.self.at args.count (loop.taken + 1) loop.left (loop.left - 1) more c.cut_off.result few
+      walk_cut s args.self.at args.count (loop.taken + 1) loop.left (loop.left - 1) more c.cut_off.result few
           (λ beyond. c.cut_off.ensures.0 (omega arith)) (λ inside. c.cut_off.ensures.1 (omega arith) (omega arith)) loop.invariant,
       tt,
     )
@@ -34,7 +34,7 @@ bounds-payload-taken c = omega arith
 pub overflow_add-taken-in-loop-left : goal.overflow_add-taken-in-loop-left
 overflow_add-taken-in-loop-left c =
     let s = c.args.payload.now in
-    let most = size-most (get_or s (c.loop-left.taken + 1) 0) in
+    let most = size_most (get_or s (c.loop-left.taken + 1) 0) in
     omega (arith, most, c.element_size-taken.ensures)
 
 pub loop-left-preserved : goal.loop-left-preserved
@@ -44,15 +44,15 @@ loop-left-preserved c =
     let s = args.payload.now in
     let more : loop.left ≡ suc (loop.left - 1) = omega arith in
     let two : loop.taken + 1 + 2 ≤ length s = omega arith in
-    let next : loop.taken + 1 + elementSize (get_or s (loop.taken + 1) 0) ≡ loop.taken + c.element_size-taken.result + 1 = omega (arith, c.element_size-taken.ensures) in
+    let next : loop.taken + 1 + element_size (get_or s (loop.taken + 1) 0) ≡ loop.taken + c.element_size-taken.result + 1 = omega (arith, c.element_size-taken.ensures) in
     subst (λ (at : ℕ). Walk s args.self.at args.count at (loop.left - 1)) next
-    (walk-more s args.self.at args.count (loop.taken + 1) loop.left (loop.left - 1) more two loop.invariant)
+    (walk_more s args.self.at args.count (loop.taken + 1) loop.left (loop.left - 1) more two loop.invariant)
 
 pub returns-then-payload-taken : goal.returns-then-payload-taken
 returns-then-payload-taken c =
     let loop = c.loop-left in
     let args = c.args in
-    (walk-lacks args.payload.now args.self.at args.count (loop.taken + 1) loop.left (omega arith) loop.invariant, tt)
+    (walk_lacks args.payload.now args.self.at args.count (loop.taken + 1) loop.left (omega arith) loop.invariant, tt)
 
 pub long_count-long-requires : goal.long_count-long-requires
 long_count-long-requires c =
@@ -60,7 +60,7 @@ long_count-long-requires c =
     let args = c.args in
     let none : loop.left ≡ 0 = omega arith in
     let inside : loop.taken + 1 ≤ length args.payload.now = omega arith in
-    let (done, read, size, few, reach) = walk-done args.payload.now args.self.at args.count (loop.taken + 1) loop.left none inside loop.invariant in
+    let (done, read, size, few, reach) = walk_done args.payload.now args.self.at args.count (loop.taken + 1) loop.left none inside loop.invariant in
     (omega (arith, size, few), omega (arith, size, few))
 
 pub returns : goal.returns
@@ -69,6 +69,6 @@ returns c =
     let args = c.args in
     let none : loop.left ≡ 0 = omega arith in
     let inside : loop.taken + 1 ≤ length args.payload.now = omega arith in
-    let (done, read, size, few, reach) = walk-done args.payload.now args.self.at args.count (loop.taken + 1) loop.left none inside loop.invariant in
-    let long : c.long_count-long.result ≡ longCount done = omega (arith, c.long_count-long.ensures, size) in
-    (rw read, (refl, rw read (each-leaves _ _ _ _ read).1, reach, rw read long))
+    let (done, read, size, few, reach) = walk_done args.payload.now args.self.at args.count (loop.taken + 1) loop.left none inside loop.invariant in
+    let long : c.long_count-long.result ≡ long_count done = omega (arith, c.long_count-long.ensures, size) in
+    (rw read, (refl, rw read (each_leaves _ _ _ _ read).1, reach, rw read long))

@@ -5,12 +5,12 @@ use native.Mathlib.Omega.{arith}
 use lib.ListN.{length-drop}
 use lib.Seq.{drop-drop}
 use borrow.Author.Tests.{lt-ltb, le-ltb}
-use Rattle.felica_format.specs.Basic.{refuseIf}
-use Rattle.felica_format.specs.Read.{readIdm}
+use Rattle.felica_format.specs.Basic.{refuse_if}
+use Rattle.felica_format.specs.Read.{read_idm}
 use Rattle.felica_cursor.proofs.cursor.Cursor.take_idm.Goals as goal
 
 pub returns-then-left-lt-IDM_LEN : goal.returns-then-left-lt-IDM_LEN
-unfolding readIdm refuseIf
+unfolding read_idm refuse_if
 returns-then-left-lt-IDM_LEN c = (simp (sym c.left-left.ensures, lt-ltb _ _ c.if-left-lt-IDM_LEN.true), tt, refl)
 
 pub idm_at-idm-requires : goal.idm_at-idm-requires
@@ -20,5 +20,5 @@ pub overflow_add-result : goal.overflow_add-result
 overflow_add-result c = omega (arith, simp length-drop at c.left-left.ensures)
 
 pub returns : goal.returns
-unfolding readIdm refuseIf
+unfolding read_idm refuse_if
 returns c = (simp (sym c.left-left.ensures, le-ltb _ _ c.if-left-lt-IDM_LEN.false, drop-drop, c.idm_at-idm.ensures), refl, tt)

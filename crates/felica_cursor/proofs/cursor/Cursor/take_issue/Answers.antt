@@ -5,12 +5,12 @@ use native.Mathlib.Omega.{arith}
 use lib.ListN.{length-drop}
 use lib.Seq.{drop-drop}
 use borrow.Author.Tests.{lt-ltb, le-ltb}
-use Rattle.felica_format.specs.Basic.{refuseIf}
-use Rattle.felica_format.specs.Read.{readEnding, readValues}
+use Rattle.felica_format.specs.Basic.{refuse_if}
+use Rattle.felica_format.specs.Read.{read_ending, read_values}
 use Rattle.felica_cursor.proofs.cursor.Cursor.take_issue.Goals as goal
 
 pub returns-then-left-lt16 : goal.returns-then-left-lt16
-unfolding readEnding refuseIf
+unfolding read_ending refuse_if
 returns-then-left-lt16 c = (simp (sym c.left-left.ensures, lt-ltb _ _ c.if-left-lt16.true), tt, refl)
 
 pub challenge_at-challenge-requires : goal.challenge_at-challenge-requires
@@ -20,5 +20,5 @@ pub overflow_add-result : goal.overflow_add-result
 overflow_add-result c = omega (arith, simp length-drop at c.left-left.ensures)
 
 pub returns : goal.returns
-unfolding readEnding readValues refuseIf
+unfolding read_ending read_values refuse_if
 returns c = (simp (sym c.left-left.ensures, le-ltb _ _ c.if-left-lt16.false, drop-drop, c.challenge_at-challenge.ensures), refl, tt)

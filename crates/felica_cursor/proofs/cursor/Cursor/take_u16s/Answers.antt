@@ -5,17 +5,17 @@ use native.Mathlib.Omega.{arith}
 use lib.ListN.{length-drop}
 use lib.Seq.{drop-drop}
 use borrow.Author.Tests.{lt-ltb, le-ltb}
-use Rattle.felica_format.specs.Basic.{refuseIf}
-use Rattle.felica_format.specs.Read.{readWords}
+use Rattle.felica_format.specs.Basic.{refuse_if}
+use Rattle.felica_format.specs.Read.{read_words}
 use Rattle.felica_cursor.proofs.cursor.Cursor.take_u16s.Goals as goal
 
 pub returns-then-left-count : goal.returns-then-left-count
-unfolding readWords refuseIf
+unfolding read_words refuse_if
 returns-then-left-count c = (simp (sym c.left-left.ensures, lt-ltb _ _ c.if-left-count.true), tt)
 
 pub overflow_add-result : goal.overflow_add-result
 overflow_add-result c = omega (arith, simp length-drop at c.left-left.ensures)
 
 pub returns : goal.returns
-unfolding readWords refuseIf
+unfolding read_words refuse_if
 returns c = (simp (sym c.left-left.ensures, le-ltb _ _ c.if-left-count.false, drop-drop), (refl, refl))
