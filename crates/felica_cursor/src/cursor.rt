@@ -269,7 +269,7 @@ impl Cursor {
             at = next.at;
             left -= 1;
         }
-        let long = long_count(start, at, count);
+        let long = count_long(start, at, count);
         BlocksTaken::Blocks(
             Part {
                 start: start,
@@ -302,7 +302,7 @@ impl Cursor {
             return BlocksTaken::Refused(error::LONG_BLOCK_NUMBER_MISSING);
         }
         let at = taken + 1;
-        let long = long_count(start, at, count);
+        let long = count_long(start, at, count);
         BlocksTaken::Blocks(
             Part {
                 start: start,
@@ -370,7 +370,7 @@ impl Cursor {
 }
 
 // How many of so many elements are long, by the bytes that they take: a short one has two, a long one three.
-fn long_count(start: usize, at: usize, count: u8) -> u8
+fn count_long(start: usize, at: usize, count: u8) -> u8
     requires { (start + 2 * count ≤ at) × (at ≤ start + 3 * count) }
     ensures { result ≡ at - start - 2 * count }
 {

@@ -114,11 +114,11 @@ pub listed_start : (v : Option (List ℕ)) (t : Totals) (a : Buffer) (held : Lis
 listed_start v t a held = record { lines = []; written = []; lists = λ behind. refl; waits = append-nil (take a.next a.bytes); taken = appends_none v }
 
 -- the rest of the bytes held, moved to the front
-drop-take : (m n : ℕ) (s : List ℕ) → drop m (take n s) ≡ take (n - m) (drop m s)
-drop-take zero n s = rw sub-zero
-drop-take (suc m) zero s = let none : 0 - suc m ≡ 0 = omega arith in rw none
-drop-take (suc m) (suc n) [] = sym (take-nil (suc n - suc m))
-drop-take (suc m) (suc n) (x ∷ s) = let same : suc n - suc m ≡ n - m = omega arith in rw same (drop-take m n s)
+drop_take : (m n : ℕ) (s : List ℕ) → drop m (take n s) ≡ take (n - m) (drop m s)
+drop_take zero n s = rw sub-zero
+drop_take (suc m) zero s = let none : 0 - suc m ≡ 0 = omega arith in rw none
+drop_take (suc m) (suc n) [] = sym (take-nil (suc n - suc m))
+drop_take (suc m) (suc n) (x ∷ s) = let same : suc n - suc m ≡ n - m = omega arith in rw same (drop_take m n s)
 
 pub rest_moved : (s : List ℕ) (used held : ℕ) → used ≤ held → held ≤ length s → take (held - used) (moved s used held) ≡ drop used (take held s)
 unfolding moved
@@ -126,7 +126,7 @@ rest_moved s used held h k =
     rw (le-leb held (length s) k)
     (ap (λ (n : ℕ). take n (paste s 0 (drop used s) (held - used))) (sym (zero-add (held - used)))
     ∙ take-paste s 0 (drop used s) (held - used) (omega arith) (rw (length-drop used s) (omega arith))
-    ∙ sym (drop-take used held s))
+    ∙ sym (drop_take used held s))
 
 pub none_kept : (v : Option (List ℕ)) (t : Totals) (a : Buffer) (held : List ℕ) (w : Option (List ℕ)) (u : Totals) (b : Buffer) (rest : List ℕ) → RestKept v t a held w u b rest → NoneLeft u rest
 none_kept v t a held w u b rest (used, all, is) = subst (NoneLeft u) (sym is) all.1

@@ -50,8 +50,8 @@ loop-left-preserved c =
       l.invariant.1 ∙ size_more s l.at next l.left (l.left - 1) more placed,
     )
 
-pub long_count-long-requires : goal.long_count-long-requires
-long_count-long-requires c =
+pub count_long-long-requires : goal.count_long-long-requires
+count_long-long-requires c =
     let (done, read, place, count) = c.loop-left.invariant.0 in
     let few = long_few done in
     (omega (arith, few, place, count), omega (arith, few, place, count))
@@ -63,5 +63,5 @@ returns c =
     let (done, read, place, count) = l.invariant.0 in
     let none : l.left ≡ 0 = omega arith in
     let all = read ∙ each_done done l.left (drop l.at s) none in
-    let long : c.long_count-long.result ≡ long_count done = omega (arith, c.long_count-long.ensures, place, count, none) in
+    let long : c.count_long-long.result ≡ long_count done = omega (arith, c.count_long-long.ensures, place, count, none) in
     (rw all refl, (refl, rw all (each_leaves _ _ _ _ all).1, sym (l.invariant.1 ∙ size_done s l.at l.left none), rw all long))

@@ -54,8 +54,8 @@ returns-then-payload-taken c =
     let args = c.args in
     (walk_lacks args.payload.now args.self.at args.count (loop.taken + 1) loop.left (omega arith) loop.invariant, tt)
 
-pub long_count-long-requires : goal.long_count-long-requires
-long_count-long-requires c =
+pub count_long-long-requires : goal.count_long-long-requires
+count_long-long-requires c =
     let loop = c.loop-left in
     let args = c.args in
     let none : loop.left ≡ 0 = omega arith in
@@ -70,5 +70,5 @@ returns c =
     let none : loop.left ≡ 0 = omega arith in
     let inside : loop.taken + 1 ≤ length args.payload.now = omega arith in
     let (done, read, size, few, reach) = walk_done args.payload.now args.self.at args.count (loop.taken + 1) loop.left none inside loop.invariant in
-    let long : c.long_count-long.result ≡ long_count done = omega (arith, c.long_count-long.ensures, size) in
+    let long : c.count_long-long.result ≡ long_count done = omega (arith, c.count_long-long.ensures, size) in
     (rw read, (refl, rw read (each_leaves _ _ _ _ read).1, reach, rw read long))
