@@ -15,7 +15,6 @@ from pathlib import Path
 
 NAME = r"[A-Za-z_][A-Za-z0-9_']*(?:-[A-Za-z0-9_'+]+)*"
 TOKEN = re.compile(rf"(?<![A-Za-z0-9_'])({NAME})(?![A-Za-z0-9_'])")
-DECLARED = re.compile(rf"^\s*(?:(?:pub|abbrev|unfoldable|opaque)\s+)*((?:{NAME}\s+|◌{NAME}◌\s+)+):\s")
 IMPORT = re.compile(r"^\s*(?:pub )?(?:ghost )?use ([^{;\s]+?)(?:\.\{([^}]*)\}|);?\s*$")
 GOAL = re.compile(r"^\s*pub (\S+) : goal\.", re.M)
 GOAL_FILES = ("Answers.antt", "Invariants.antt", "Proof.antt")
@@ -104,11 +103,14 @@ def spelling(root):
     library = library_names(files)
     new = {}
     for name in known - library:
+        if re.match(r"^x[0-9A-F]+$", name):
+            # the digits of a number in hexadecimal
+            continue
         if name in RENAMED:
             new[name] = RENAMED[name]
         elif name in BESIDE:
             new[name] = BESIDE[name]
-        elif name != snake(name) and not re.match(r"^x[0-9A-F]+$", name):
+        elif name != snake(name):
             new[name] = snake(name)
     # port.py respells some lemmas by itself: where the definition still stands beside one, the lemma is the one that gives way
     spelt = {snake(name): name for name in known if snake(name) != name and "-" not in name}
@@ -127,6 +129,8 @@ def respelt_proof(text, new, goals, in_goal_file):
 
 
 def respelt_code(code, new, goals, in_goal_file):
+    """a name with dashes is the checker's where it stands behind the facts of a goal, and a lemma's elsewhere"""
+
     def one(found):
         name = found[1]
         if name not in new or name in goals:
@@ -140,7 +144,7 @@ def respelt_code(code, new, goals, in_goal_file):
 
 
 def respelt_words(text, new):
-    """in prose a name in camel case is always a name; one with dashes only where it is quoted"""
+    """in prose, code and edits a word in camel case is a name; one with dashes only where it is quoted"""
 
     def plain(found):
         return new.get(found[1], found[1]) if "-" not in found[1] and snake(found[1]) != found[1] else found[1]
@@ -156,8 +160,6 @@ def respelt(path, new):
     if path.suffix == ".antt":
         in_goal_file = is_goal_file(path)
         return respelt_proof(text, new, set(GOAL.findall(text)) if in_goal_file else set(), in_goal_file)
-    if path.suffix == ".edit" and ".antt" in text.split("\n")[0]:
-        return respelt_proof(text, new, set(), False)
     return respelt_words(text, new)
 
 
