@@ -1,37 +1,39 @@
 -- Text put into a buffer, piece after piece, and the loops that put a list. Such a loop's invariant is stated of what is left: putting the rest
 -- here gives what putting all gives from the start.
 -- Assumes nothing.
-use mathlib.Core.Path.{◌≡◌, refl, sym, ap, ◌∙◌}
-use mathlib.Core.Bool.{Bool, true, false}
-use mathlib.Core.List.{List, [], ◌∷◌, ◌++◌}
-use Prim.Native.Nat.{ℕ, suc, ◌+◌, ◌-◌, ◌≤◌, ◌<◌}
-use native.Mathlib.Nat.{zero-add}
-use native.Mathlib.Numerals.{add-one}
-use native.Mathlib.Omega.{arith}
-use lib.ListN.{length, get_or, set, take, drop, length-set, length-append, length-drop, drop_of_length-le}
-use lib.Seq.{sets, sets-eq, drop-cons, drop-set-lt, length-take-le, take_all, take-append_seam}
-use lib.Dec.{ltb}
-use borrow.Author.Tests.{lt-ltb, le-ltb, ltb-true}
-use Rattle.felica_put.specs.Put.{Buffer, buffer, put_byte, put}
+use Rattle.std.proofs.Common.{ℕ, suc, ◌+◌, ◌-◌, ◌≤◌, ◌<◌, ◌≡◌, refl, sym, ap, ◌∙◌, Bool, true, false, List, [], ◌∷◌, ◌++◌, zero-add, add-one, arith}
+use Rattle.std.proofs.Common.{length, get_or, set, take, drop, length-append, length-drop}
+use Rattle.std.proofs.Math.Dec.{ltb}
+use Rattle.std.proofs.Math.ListN.{drop_of_length-le}
+use Rattle.std.proofs.Math.Seq.{drop-cons, take-append_seam}
+use Rattle.std.proofs.lemmas.Bool.{lt-ltb, le-ltb, ltb-true}
+use Rattle.std.proofs.lemmas.List.{drop-set-lt, length-set, length-take-le, take_all, take-append-drop}
+use Rattle.std.proofs.lemmas.List.Edits.{sets, sets-eq}
+use borrow.Rule.Slice.PartMut.{put_mid}
+use Rattle.std.proofs.lemmas.Slice.{put_mid-paste}
+use Rattle.std.proofs.Common.{min}
+use Rattle.felica_put.specs.Put.{BufferOf, buffer, put_byte, put}
+use Rattle.felica_put.specs.Output.{Puts, held}
+use Rattle.felica_put.specs.declared.Output.{Output}
 
-pub put_append : (b : Buffer) (vs ws : List ℕ) → put b (vs ++ ws) ≡ put (put b vs) ws
+pub put_append : {A : Type 0} (b : BufferOf A) (vs ws : List A) → put b (vs ++ ws) ≡ put (put b vs) ws
 unfolding put
 put_append b [] ws = refl
 put_append b (v ∷ vs) ws = put_append (put_byte b v) vs ws
 
 -- one piece behind another
-pub put_then : (b : Buffer) (vs ws : List ℕ) {c d : Buffer} → c ≡ put b vs → d ≡ put c ws → d ≡ put b (vs ++ ws)
+pub put_then : {A : Type 0} (b : BufferOf A) (vs ws : List A) {c d : BufferOf A} → c ≡ put b vs → d ≡ put c ws → d ≡ put b (vs ++ ws)
 put_then b vs ws first second = second ∙ ap (λ x. put x ws) first ∙ sym (put_append b vs ws)
 
 -- the same piece in other words
-pub put_same : (b : Buffer) (vs ws : List ℕ) {c : Buffer} → c ≡ put b vs → vs ≡ ws → c ≡ put b ws
+pub put_same : {A : Type 0} (b : BufferOf A) (vs ws : List A) {c : BufferOf A} → c ≡ put b vs → vs ≡ ws → c ≡ put b ws
 put_same b vs ws e same = e ∙ ap (put b) same
 
 -- the first piece of what is to be put
-pub put_rest : (b : Buffer) (vs ws : List ℕ) {c all : Buffer} → put b (vs ++ ws) ≡ all → c ≡ put b vs → put c ws ≡ all
+pub put_rest : {A : Type 0} (b : BufferOf A) (vs ws : List A) {c all : BufferOf A} → put b (vs ++ ws) ≡ all → c ≡ put b vs → put c ws ≡ all
 put_rest b vs ws e first = ap (λ x. put x ws) first ∙ sym (put_append b vs ws) ∙ e
 
-pub put_none : (b : Buffer) (vs : List ℕ) {all : Buffer} → vs ≡ [] → put b vs ≡ all → b ≡ all
+pub put_none : {A : Type 0} (b : BufferOf A) (vs : List A) {all : BufferOf A} → vs ≡ [] → put b vs ≡ all → b ≡ all
 unfolding put
 put_none b vs n e = sym (ap (put b) n) ∙ e
 
@@ -40,12 +42,12 @@ pub drop_next {ℓ} : {A : Type ℓ} (l : List A) (i : ℕ) (d : A) → i < leng
 drop_next l i d h = drop-cons l i d h ∙ ap (λ (k : ℕ). get_or l i d ∷ drop k l) (sym (add-one i))
 
 -- a list from a place on, as a slice is cut
-pub take_rest : (n : ℕ) (s : List ℕ) → take (length s - n) (drop n s) ≡ drop n s
+pub take_rest : {A : Type 0} (n : ℕ) (s : List A) → take (length s - n) (drop n s) ≡ drop n s
 take_rest n s = take_all (length s - n) (drop n s) (omega (arith, length-drop n s))
 
 -- A turn of a loop that puts f of a list, entry by entry: g is what an entry puts.
-module _ {ℓ} {A : Type ℓ} (f : List A → List ℕ) (g : A → List ℕ) (cons : (x : A) (xs : List A) → f (x ∷ xs) ≡ g x ++ f xs) where
-  pub put_more : (b : Buffer) (s : List A) (i : ℕ) (d : A) {c all : Buffer} → i < length s → put b (f (drop i s)) ≡ all → c ≡ put b (g (get_or s i d))
+module _ {A B : Type 0} (f : List A → List B) (g : A → List B) (cons : (x : A) (xs : List A) → f (x ∷ xs) ≡ g x ++ f xs) where
+  pub put_more : (b : BufferOf B) (s : List A) (i : ℕ) (d : A) {c all : BufferOf B} → i < length s → put b (f (drop i s)) ≡ all → c ≡ put b (g (get_or s i d))
       → put c (f (drop (i + 1) s)) ≡ all
   put_more b s i d h e turn =
       put_rest b (g (get_or s i d)) (f (drop (i + 1) s))
@@ -53,38 +55,38 @@ module _ {ℓ} {A : Type ℓ} (f : List A → List ℕ) (g : A → List ℕ) (co
       turn
 
 -- nothing is left of it
-pub put_done {ℓ} : {A : Type ℓ} (f : List A → List ℕ) (b : Buffer) (s : List A) (i : ℕ) {all : Buffer} → f [] ≡ [] → length s ≤ i → put b (f (drop i s)) ≡ all
+pub put_done : {A B : Type 0} (f : List A → List B) (b : BufferOf B) (s : List A) (i : ℕ) {all : BufferOf B} → f [] ≡ [] → length s ≤ i → put b (f (drop i s)) ≡ all
     → b ≡ all
 put_done f b s i n h e = put_none b (f (drop i s)) (ap f (drop_of_length-le s h) ∙ n) e
 
 -- one byte where there is room, and bytes where there is none
-pub put_one : (l : List ℕ) (at i v : ℕ) → at + i < length l → buffer (set l (at + i) v) (at + (i + 1)) ≡ put (buffer l (at + i)) (v ∷ [])
+pub put_one : {A : Type 0} (l : List A) (at i : ℕ) (v : A) → at + i < length l → buffer (set l (at + i) v) (at + (i + 1)) ≡ put (buffer l (at + i)) (v ∷ [])
 unfolding put
 put_one l at i v room = let n : at + (i + 1) ≡ at + i + 1 = omega arith in rw (lt-ltb _ _ room, n) refl
 
-put_full : (vs l : List ℕ) (at : ℕ) → length l ≤ at → put (buffer l at) vs ≡ buffer l at
+pub put_full : {A : Type 0} (vs l : List A) (at : ℕ) → length l ≤ at → put (buffer l at) vs ≡ buffer l at
 unfolding put
 put_full [] l at full = refl
 put_full (v ∷ vs) l at full = rw (le-ltb _ _ full) (put_full vs l at full)
 
 -- all is put where nothing is left of the list or of the room
-put_over : (rest l : List ℕ) (at : ℕ) {all : Buffer} → (0 < length rest → length l ≤ at) → put (buffer l at) rest ≡ all → buffer l at ≡ all
+put_over : {A : Type 0} (rest l : List A) (at : ℕ) {all : BufferOf A} → (0 < length rest → length l ≤ at) → put (buffer l at) rest ≡ all → buffer l at ≡ all
 unfolding put
 put_over [] l at full e = e
 put_over (v ∷ vs) l at full e = sym (put_full (v ∷ vs) l at (full (omega arith))) ∙ e
 
 -- a loop that puts a list from a place on: its start and its end
-pub put_start : (s l : List ℕ) (at : ℕ) → put (buffer l (at + 0)) (drop 0 s) ≡ put (buffer l at) s
+pub put_start : {A : Type 0} (s l : List A) (at : ℕ) → put (buffer l (at + 0)) (drop 0 s) ≡ put (buffer l at) s
 put_start s l at = let n : at + 0 ≡ at = omega arith in rw n refl
 
-pub put_last : (s l before : List ℕ) (at i count : ℕ) {all : Buffer} → i ≡ count → length l ≡ length before
+pub put_last : {A : Type 0} (s l before : List A) (at i count : ℕ) {all : BufferOf A} → i ≡ count → length l ≡ length before
     → (count < length s → length before ≤ at + count) → put (buffer l (at + i)) (drop i s) ≡ all → buffer l (at + count) ≡ all
 put_last s l before at i count is same full e =
     put_over (drop count s) l (at + count) (λ left. let more : count < length s = omega (arith, length-drop count s, left) in omega (arith, full more, same))
     (ap (λ (k : ℕ). put (buffer l (at + k)) (drop k s)) (sym is) ∙ e)
 
 -- Where there is room, the text stands in the buffer, and what lies before and behind it keeps its value.
-put_sets : (vs l : List ℕ) (at : ℕ) → at + length vs ≤ length l → put (buffer l at) vs ≡ buffer (sets l at vs) (at + length vs)
+put_sets : {A : Type 0} (vs l : List A) (at : ℕ) → at + length vs ≤ length l → put (buffer l at) vs ≡ buffer (sets l at vs) (at + length vs)
 unfolding put
 put_sets [] l at h = let n : at + 0 ≡ at = omega arith in rw n
 put_sets (v ∷ vs) l at h =
@@ -92,32 +94,32 @@ put_sets (v ∷ vs) l at h =
     let n : at + suc (length vs) ≡ suc at + length vs = omega arith in
     rw (lt-ltb _ _ room, add-one, n) (put_sets vs (set l at v) (suc at) (omega (arith, length-set l at v)))
 
-pub put_room : (vs l : List ℕ) (at : ℕ) → at + length vs ≤ length l
+pub put_room : {A : Type 0} (vs l : List A) (at : ℕ) → at + length vs ≤ length l
     → put (buffer l at) vs ≡ buffer (take at l ++ vs ++ drop (at + length vs) l) (at + length vs)
 put_room vs l at h = put_sets vs l at h ∙ ap (λ m. buffer m (at + length vs)) (sets-eq vs l at h)
 
 -- the same from the start
-pub put_front : (vs l : List ℕ) → length vs ≤ length l → put (buffer l 0) vs ≡ buffer (vs ++ drop (length vs) l) (length vs)
+pub put_front : {A : Type 0} (vs l : List A) → length vs ≤ length l → put (buffer l 0) vs ≡ buffer (vs ++ drop (length vs) l) (length vs)
 put_front vs l h = put_room vs l 0 (omega arith) ∙ ap (λ n. buffer (vs ++ drop n l) n) (zero-add (length vs))
 
 -- what stands in front of the next place then
-pub put_taken : (vs l : List ℕ) (at : ℕ) → at + length vs ≤ length l → take (put (buffer l at) vs).next (put (buffer l at) vs).bytes ≡ take at l ++ vs
+pub put_taken : {A : Type 0} (vs l : List A) (at : ℕ) → at + length vs ≤ length l → take (put (buffer l at) vs).next (put (buffer l at) vs).bytes ≡ take at l ++ vs
 put_taken vs l at h =
     let front : length (take at l ++ vs) ≡ at + length vs =
     length-append (take at l) vs ∙ ap (λ (n : ℕ). n + length vs) (length-take-le at l (omega arith)) in
-    ap (λ (b : Buffer). take b.next b.bytes) (put_room vs l at h)
+    ap (λ b. take b.next b.bytes) (put_room vs l at h)
     ∙ ap (λ (n : ℕ). take n (take at l ++ vs ++ drop (at + length vs) l)) (sym front)
     ∙ take-append_seam (take at l ++ vs) (drop (at + length vs) l)
 
 -- Whether or not there is room: the buffer keeps its length, the next place never falls and stays within the buffer, and from there on
 -- every byte keeps its value.
-pub record Kept (b c : Buffer) : Type 0 where
+pub record Kept {A : Type 0} (b c : BufferOf A) : Type 0 where
   pub long : length c.bytes ≡ length b.bytes
   pub onward : b.next ≤ c.next
   pub within : b.next ≤ length b.bytes → c.next ≤ length c.bytes
   pub behind : (n : ℕ) → c.next ≤ n → drop n c.bytes ≡ drop n b.bytes
 
-kept_byte : (b : Buffer) (v : ℕ) (room : Bool) → ltb b.next (length b.bytes) ≡ room → Kept b (put_byte b v)
+kept_byte : {A : Type 0} (b : BufferOf A) (v : A) (room : Bool) → ltb b.next (length b.bytes) ≡ room → Kept b (put_byte b v)
 kept_byte b v true e =
     let h = ltb-true b.next (length b.bytes) e in
     rw e (record {
@@ -128,7 +130,7 @@ kept_byte b v true e =
     })
 kept_byte b v false e = rw e (record { long = refl; onward = omega arith; within = λ k. k; behind = λ n k. refl })
 
-pub kept : (b : Buffer) (vs : List ℕ) → Kept b (put b vs)
+pub kept : {A : Type 0} (b : BufferOf A) (vs : List A) → Kept b (put b vs)
 unfolding put
 kept b [] = record { long = refl; onward = omega arith; within = λ k. k; behind = λ n k. refl }
 kept b (v ∷ vs) =
@@ -141,5 +143,26 @@ kept b (v ∷ vs) =
       behind = λ n k. rest.behind n k ∙ first.behind n (omega (arith, rest.onward));
     }
 
-pub put_within : (l : List ℕ) (at : ℕ) (vs : List ℕ) {m : List ℕ} {n : ℕ} → buffer m n ≡ put (buffer l at) vs → at ≤ length l → n ≤ length m
+pub put_within : {A : Type 0} (l : List A) (at : ℕ) (vs : List A) {m : List A} {n : ℕ} → buffer m n ≡ put (buffer l at) vs → at ≤ length l → n ≤ length m
 put_within l at vs e h = rw (ap (λ b. b.bytes) e, ap (λ b. b.next) e) ((kept (buffer l at) vs).within h)
+
+-- what is put behind something else
+pub puts_then : {A : Type 0} {a b c : Output A} {vs ws : List A} → Puts a b vs → Puts b c ws → Puts a c (vs ++ ws)
+puts_then {a = a} {vs = vs} {ws = ws} first second =
+    record { same_reference = second.same_reference ∙ first.same_reference; held = put_then (held a) vs ws first.held second.held }
+
+pub puts_nothing : {A : Type 0} {a : Output A} → Puts a a []
+unfolding put
+puts_nothing = record { same_reference = refl; held = refl }
+
+-- a list put where only its first k items fit, or all of it
+pub put_fitting : {A : Type 0} (vs l now : List A) (at k n : ℕ) → at ≤ length l → k ≡ min (length vs) (length l - at) → n ≡ k → now ≡ take k vs
+    → buffer (put_mid at n l now) (at + k) ≡ put (buffer l at) vs
+put_fitting vs l now at k n room fits same is =
+    let short : length (take k vs) ≡ k = length-take-le k vs (omega arith) in
+    let front : put (buffer l at) (take k vs) ≡ buffer (put_mid at n l now) (at + k) =
+    put_room (take k vs) l at (omega arith)
+    ∙ rw (short, ← take_all k (take k vs) (omega arith)) (ap (λ m. buffer m (at + k)) (sym (put_mid-paste at n l now (take k vs) k is (sym same) (sym short)))) in
+    let long : length (put_mid at n l now) ≡ length l = ap (λ b. length b.bytes) (sym front) ∙ (kept (buffer l at) (take k vs)).long in
+    put_over (drop k vs) (put_mid at n l now) (at + k) (λ left. omega (arith, length-drop k vs)) refl
+    ∙ ap (λ b. put b (drop k vs)) (sym front) ∙ sym (put_append (buffer l at) (take k vs) (drop k vs)) ∙ ap (put (buffer l at)) (take-append-drop k vs)

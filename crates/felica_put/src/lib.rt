@@ -1,39 +1,66 @@
-// Bytes put into a lent buffer at a place. Each function answers the place behind; where the buffer is full the rest is left out.
+// Numbers put into a lent buffer, one behind the other; where it is full the rest is left out.
 #![tactic(auto)]
 
-ghost use Rattle.std.specs.Prelude.{◌≡◌, [], ◌∷◌, ◌+◌, ◌-◌, ◌≤◌, ◌<◌};
+ghost use Rattle.std.specs.Prelude.{◌≡◌, [], ◌∷◌, take};
 ghost use Rattle.felica_put.specs.Put.{buffer, put};
+ghost use Rattle.felica_put.specs.Output.{Puts, held};
+
+// A lent buffer, and how many of its places are filled, from the front on.
+#[derive(Drop)]
+pub struct Output<'a, T> {
+    pub room: &'a mut [T],
+    pub len: usize,
+}
+
+impl<'a, T: Copy> Output<'a, T> {
+    // Nothing is put into it yet.
+    pub fn new(room: &'a mut [T]) -> Output<'a, T>
+        ensures same_reference { result.room.ghost_name ≡ room.entry.ghost_name }
+        ensures empty { held result ≡ buffer room.old 0 }
+    {
+        Output { room, len: 0 }
+    }
+
+    pub fn put(&mut self, item: T)
+        ensures { Puts self.old self.new (item ∷ []) }
+    {
+        if self.len < self.room.len() {
+            self.room[self.len] = item;
+            self.len += 1;
+        }
+    }
+
+    pub fn put_all(&mut self, items: &[T])
+        ensures { Puts self.old self.new items.now }
+    {
+        if self.room.len() <= self.len {
+            return;
+        }
+        let count = items.len().min(self.room.len() - self.len);
+        self.room[self.len..self.len + count].copy_from_slice(&items[..count]);
+        self.len += count;
+    }
+
+    // What has been put into it.
+    pub fn filled(&self) -> &[T]
+        ensures { result.now ≡ take self.now.len self.now.room.now }
+    {
+        &self.room[..self.len.min(self.room.len())]
+    }
+}
 
 pub fn put_byte(out: &mut [u8], at: usize, byte: u8) -> usize
     ensures { buffer out.new result ≡ put (buffer out.old at) (byte ∷ []) }
 {
-    if at < out.len() {
-        out[at] = byte;
-        at + 1
-    } else {
-        at
-    }
+    let mut output = Output { room: out, len: at };
+    output.put(byte);
+    output.len
 }
 
 pub fn put_bytes(out: &mut [u8], at: usize, bytes: &[u8]) -> usize
     ensures { buffer out.new result ≡ put (buffer out.old at) bytes.now }
 {
-    let count = fitting(out.len(), at, bytes.len());
-    let mut i: usize = 0;
-    while i < count {
-        out[at + i] = bytes[i];
-        i += 1;
-    }
-    at + count
-}
-
-// How many of so many bytes there is room for from a place on, found once, so that the bytes are copied without a test for each.
-fn fitting(len: usize, at: usize, bytes: usize) -> usize
-    ensures { (result ≤ bytes) × (result ≤ len - at) × ((result < bytes → len ≤ at + result)) }
-{
-    if len <= at {
-        return 0;
-    }
-    let room = len - at;
-    if room < bytes { room } else { bytes }
+    let mut output = Output { room: out, len: at };
+    output.put_all(bytes);
+    output.len
 }
