@@ -7,6 +7,7 @@ use felica_format::constants::MAX_BLOCK_COUNT;
 use felica_totals::Totals;
 
 // The size byte of the record to be listed next, or why there is none. `room` is how many bytes can still be put into the buffer.
+#[tactic(auto, using(crate::proofs::Turn::ahead_none, crate::proofs::Turn::ahead_some, std::proofs::lemmas::Bool::Decides::nat_tests))]
 pub(crate) fn look_ahead(rest: &[u8], room: usize, totals: Totals) -> Result<u8, Stop>
     ensures { result ≡ ahead_of rest.now room totals }
 {

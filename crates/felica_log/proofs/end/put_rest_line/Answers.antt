@@ -1,7 +1,5 @@
 -- `put_rest_line` meets its contract.
 -- Assumes nothing.
-use Rattle.std.proofs.Common.{sym, subst}
-use Rattle.felica_put.specs.Output.{Puts}
 use Rattle.felica_put.proofs.Laws.{puts_nothing}
 use Rattle.felica_log.proofs.Front.{nothing_left, full_left, whole_left, cut_left}
 use Rattle.felica_log.proofs.end.put_rest_line.Goals as goal

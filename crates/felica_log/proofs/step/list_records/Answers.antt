@@ -1,7 +1,6 @@
 -- `list_records` meets its contract: a record for each turn.
 -- Assumes nothing.
-use Rattle.std.proofs.Common.{ℕ, ◌+◌, ◌-◌, ◌≡◌, refl, sym, ap, ◌∙◌, arith, Ok, length, take, drop}
-use Rattle.std.specs.Bool.{then_some}
+use Rattle.std.proofs.Common.{ℕ, ◌+◌, ◌-◌, ◌≡◌, sym, ap, ◌∙◌, arith, Ok, length, take, drop}
 use Rattle.felica_put.specs.Output.{held}
 use Rattle.felica_put.proofs.Laws.{take_rest}
 use Rattle.felica_log.proofs.Turn.{frame_ahead, frame_inside, turn_stopped, turn_listed}
