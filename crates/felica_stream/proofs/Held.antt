@@ -7,7 +7,9 @@ use Rattle.std.proofs.lemmas.List.{drop-take, take-append-le, length-take-le}
 use Rattle.std.proofs.lemmas.List.Edits.{paste_none}
 use Rattle.std.specs.Io.KnownBytes.{Consumes}
 use Rattle.std.specs.declared.option.Option.{Option}
-use Rattle.felica_stream.specs.Held.{moved, still_waiting}
+use Rattle.felica_put.specs.Put.{Buffer}
+use Rattle.felica_put.specs.declared.Output.{Output}
+use Rattle.felica_stream.specs.Held.{moved, still_waiting, RoomMade}
 
 -- what a read puts behind the bytes held
 behind_front : (at n : ℕ) (s buf rest : List ℕ) → at ≤ length s → n ≤ length buf → drop at (take (at + n) (take at s ++ (buf ++ rest))) ≡ take n buf
@@ -40,17 +42,24 @@ unfolding moved
 move_short s from end h = rw (lt-leb end (length s) h)
 
 -- where output is written or not, there is room behind what waits
-module _ (w next room n : ℕ) (e : w ≡ still_waiting n next room) where
-  made : (b : Bool) → leb (next + room) n ≡ b → room ≤ n → w + room ≤ n
-  made true q h = let k : next + room ≤ n = leb-true _ _ q in let is : w ≡ next = e ∙ rw q in omega arith
-  made false q h = let is : w ≡ 0 = e ∙ rw q in omega arith
+module _ (next room n : ℕ) where
+  waits : (b : Bool) → leb (next + room) n ≡ b → cond b next 0 ≤ n
+  waits true q = omega (arith, leb-true _ _ q)
+  waits false q = omega arith
 
-  waits : (b : Bool) → leb (next + room) n ≡ b → w ≤ n
-  waits true q = let k : next + room ≤ n = leb-true _ _ q in let is : w ≡ next = e ∙ rw q in omega arith
-  waits false q = let is : w ≡ 0 = e ∙ rw q in omega arith
+  made : (b : Bool) → leb (next + room) n ≡ b → room ≤ n → cond b next 0 + room ≤ n
+  made true q h = leb-true _ _ q
+  made false q h = omega arith
 
-  pub waits_inside : w ≤ n
-  waits_inside = waits (leb (next + room) n) refl
+module _ {a b : Output ℕ} {room : ℕ} (e : RoomMade a b room) where
+  pub still_is : b.len ≡ still_waiting (length a.room.now) a.len room
+  still_is = ap (λ (x : Buffer). x.next) e.held
 
-  pub room_made : room ≤ n → w + room ≤ n
-  room_made h = made (leb (next + room) n) refl h
+  pub room_length : length b.room.now ≡ length a.room.now
+  room_length = ap (λ (x : Buffer). length x.bytes) e.held
+
+  pub waits_inside : b.len ≤ length b.room.now
+  waits_inside = omega (arith, still_is, room_length, waits a.len room (length a.room.now) (leb (a.len + room) (length a.room.now)) refl)
+
+  pub room_made : room ≤ length a.room.now → b.len + room ≤ length b.room.now
+  room_made h = omega (arith, still_is, room_length, made a.len room (length a.room.now) (leb (a.len + room) (length a.room.now)) refl h)
