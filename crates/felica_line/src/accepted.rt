@@ -23,7 +23,7 @@ pub(crate) fn put_accepted(out: &mut Output<u8>, code: u8, payload: &[u8], lists
     out.put(b' ');
     put_decimal(out, lists.block_list.count);
     out.put(b' ');
-    put_decimal(out, usize::from(long));
+    put_decimal(out, long as usize);
     out.put(b' ');
     put_mark_field(out, payload, lists.first_codes, lists.second_codes);
 }

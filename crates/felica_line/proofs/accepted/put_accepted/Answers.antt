@@ -13,7 +13,6 @@ unfolding accepted_text
 returns c =
     let a = c.args in
     let count = puts_same c.put_decimal.ensures (ap decimal_text (sym (codes_counted a.payload.now a.lists.first_codes a.lists.second_codes))) in
-    let long = rw c.from.ensures at c.put_decimal-3.ensures in
     puts_then c.put_all.ensures
     (puts_then c.put_hex_byte.ensures
     (puts_then c.put.ensures
@@ -21,5 +20,5 @@ returns c =
     (puts_then c.put-2.ensures
     (puts_then c.put_decimal-2.ensures
     (puts_then c.put-3.ensures
-    (puts_then long
+    (puts_then c.put_decimal-3.ensures
     (puts_then c.put-4.ensures c.put_mark_field.ensures))))))))
