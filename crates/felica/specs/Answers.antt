@@ -1,14 +1,15 @@
 -- The answer to a line, in the output before it and behind it.
 -- Assumes nothing.
-use Rattle.std.specs.Prelude.{ℕ, ◌≡◌, List, [], ◌∷◌, take}
+use Rattle.std.specs.Prelude.{ℕ, ◌≡◌, List, [], ◌∷◌, take, Result, Ok, Err}
 use Rattle.felica_command.specs.Places.{Account}
 use Rattle.felica_command.specs.declared.command.Parsed.{Parsed}
 use Rattle.felica_put.specs.Put.{Buffer, put}
 use Rattle.felica_calls.specs.Fault.{fault_text}
 use Rattle.felica_calls.specs.Write.{behind_code}
-use Rattle.felica_calls.specs.Call.{Called}
+use Rattle.felica_calls.specs.Read.{Read}
+use Rattle.felica_calls.specs.declared.fault.Fault.{Fault}
 use Rattle.felica_calls.specs.declared.call.Call.{Call}
-use Rattle.felica_calls.specs.declared.call.Call.TheVariants.{Parse, Long, List as ListCall, Write, Wrong}
+use Rattle.felica_calls.specs.declared.call.Call.TheVariants.{Parse, Long, List as ListCall, Write}
 use Rattle.felica_answers.specs.Answer.{line_of}
 use Rattle.felica_answers.specs.Long.{long_line}
 use Rattle.felica_writing.specs.Answer.{write_answer}
@@ -16,18 +17,18 @@ use Rattle.felica.specs.Source.{reading_of, payload_in, body_at}
 use Rattle.felica.specs.Lists.{list_answer}
 
 -- of a call to parse, the line of the one result that the definitions allow; of one that asks how many elements were long, the line of what they count; the fields of a call to write stand in the line
-abbrev pub AnswerTo : List ℕ → Call → List ℕ → Buffer → Buffer → Type 0
-AnswerTo line (Parse source n) bytes before after =
+abbrev pub AnswerTo : List ℕ → Result Call Fault → List ℕ → Buffer → Buffer → Type 0
+AnswerTo line (Ok (Parse source n)) bytes before after =
     (p : Parsed) × Account (payload_in source (take n bytes)) (body_at source) (reading_of source (take n bytes)) p
     × (after ≡ put before (line_of (payload_in source (take n bytes)) p))
-AnswerTo line (Long source n) bytes before after = after ≡ put before (long_line (reading_of source (take n bytes)))
-AnswerTo line (ListCall source n z) bytes before after = after ≡ put before (list_answer (reading_of source (take n bytes)) z)
-AnswerTo line (Write size c) bytes before after = after ≡ put before (write_answer size c (behind_code line))
-AnswerTo line (Wrong fault) bytes before after = after ≡ put before (fault_text fault)
+AnswerTo line (Ok (Long source n)) bytes before after = after ≡ put before (long_line (reading_of source (take n bytes)))
+AnswerTo line (Ok (ListCall source n z)) bytes before after = after ≡ put before (list_answer (reading_of source (take n bytes)) z)
+AnswerTo line (Ok (Write size c)) bytes before after = after ≡ put before (write_answer size c (behind_code line))
+AnswerTo line (Err fault) bytes before after = after ≡ put before (fault_text fault)
 
-unfoldable pub Answered : List ℕ → Called → Buffer → Buffer → Type 0
-Answered line c before after = AnswerTo line c.call c.buffer before after
+unfoldable pub Answered : List ℕ → Read Call → Buffer → Buffer → Type 0
+Answered line c before after = AnswerTo line c.answer c.buffer before after
 
 -- a line feed behind it, whose code is 10
-unfoldable pub LineAnswered : List ℕ → Called → Buffer → Buffer → Type 0
+unfoldable pub LineAnswered : List ℕ → Read Call → Buffer → Buffer → Type 0
 LineAnswered line c before after = (answered : Buffer) × Answered line c before answered × (after ≡ put answered (10 ∷ []))

@@ -12,7 +12,7 @@ mod parse;
 use felica_calls::call::{Call, read_call};
 use felica_calls::fault::{Fault, put_fault};
 use felica_calls::write::behind_code;
-use felica_put::put_byte;
+use felica_put::{Output, put_byte};
 use felica_stream::{keep_rest, make_room, read_more};
 use felica_text::find::find;
 use felica_writing::answer_write;
@@ -39,13 +39,18 @@ struct State {
 fn answer_call(line: &[u8], bytes: &mut [u8], out: &mut [u8], at: usize) -> usize
     ensures { Answered line.now (read_call line.now bytes.old) (buffer out.old at) (buffer out.new result) }
 {
-    let call = read_call(line, bytes);
-    match call {
-        Call::Parse(source, count) => answer_parse(source, &bytes[..count], out, at),
-        Call::Long(source, count) => answer_long(source, &bytes[..count], out, at),
-        Call::List(source, count, sizes) => answer_list(source, &bytes[..count], sizes, out, at),
-        Call::Write(size, code) => answer_write(size, code, behind_code(line), out, at),
-        Call::Wrong(fault) => put_fault(out, at, fault),
+    match read_call(line, bytes) {
+        Ok(Call::Parse(source, count)) => answer_parse(source, &bytes[..count], out, at),
+        Ok(Call::Long(source, count)) => answer_long(source, &bytes[..count], out, at),
+        Ok(Call::List(source, count, sizes)) => {
+            answer_list(source, &bytes[..count], sizes, out, at)
+        }
+        Ok(Call::Write(size, code)) => answer_write(size, code, behind_code(line), out, at),
+        Err(fault) => {
+            let mut output = Output { room: out, len: at };
+            put_fault(&mut output, fault);
+            output.len
+        }
     }
 }
 
@@ -140,11 +145,15 @@ fn answer_held<R: Read, W: Write>(
         return state;
     }
     let output = make_room(writer, out, state.waiting, ANSWER_ROOM);
-    let behind = put_fault(out, output.waiting, Fault::LineTooLong);
-    let next = put_byte(out, behind, b'\n');
+    let mut line = Output {
+        room: out,
+        len: output.waiting,
+    };
+    put_fault(&mut line, Fault::LineTooLong);
+    line.put(b'\n');
     State {
         held: skip_line(reader, input),
-        waiting: next,
+        waiting: line.len,
         failed: output.failed,
     }
 }

@@ -1,8 +1,6 @@
 -- The line of what the writer answers, by its result.
 -- Assumes nothing.
-use mathlib.Core.Path.{◌≡◌, refl, sym, ap, ◌∙◌}
-use mathlib.Core.List.{List}
-use Prim.Native.Nat.{ℕ}
+use Rattle.std.proofs.Common.{ℕ, ◌≡◌, refl, sym, ap, ◌∙◌, List}
 use Rattle.felica_command.specs.declared.command.Refusal.{Refusal}
 use Rattle.felica_command.specs.declared.command.Refusal.TheVariants.{Number, OfCommand}
 use Rattle.felica_write.specs.Writing.{meaning, outcome}

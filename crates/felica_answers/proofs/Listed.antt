@@ -1,9 +1,6 @@
 -- The line of what the list reader answers, by what it answers.
 -- Assumes nothing.
-use Prim.Native.Nat.{ℕ}
-use mathlib.Core.Path.{◌≡◌, refl}
-use mathlib.Core.List.{List}
-use lib.ListN.{take}
+use Rattle.std.proofs.Common.{ℕ, ◌≡◌, refl, List, take}
 use Rattle.felica_command.specs.Meaning.{fields_of, refusal_is}
 use Rattle.felica_command.specs.Lists.{lists_in}
 use Rattle.felica_command.specs.declared.command.FelicaStandardCommand.{FelicaStandardCommand}

@@ -1,7 +1,7 @@
 // The fields of each command in the order of the layouts: IDm, codes, blocks, fixed fields, package.
 ghost use Rattle.std.specs.Prelude.{◌≡◌, List, ◌++◌, ℕ};
 ghost use Rattle.felica_command.specs.Types.{node_property_byte, encryption_byte, packet_byte};
-ghost use Rattle.felica_put.specs.Put.{buffer, put};
+ghost use Rattle.felica_put.specs.Output.{Puts};
 ghost use Rattle.felica_fields.specs.Field.{byte_field, word_field, first_field, second_field, blocks_field, data_field};
 ghost use Rattle.felica_answers.specs.Answer.{row_of, row_text, idm_text};
 
@@ -12,27 +12,27 @@ use felica_fields::field::{
     put_idm, put_index, put_issue, put_node, put_package, put_part_field, put_property,
     put_word_field,
 };
+use felica_put::Output;
 
 pub(crate) fn put_fields(
-    out: &mut [u8],
-    at: usize,
+    out: &mut Output<u8>,
     payload: &[u8],
     command: Command,
     idm: [u8; 8],
     challenge: [u8; 16],
-) -> usize
-    ensures { buffer out.new result ≡ put (buffer out.old at) (row_text idm (row_of payload.now challenge command)) }
+)
+    ensures { Puts out.old out.new (row_text idm (row_of payload.now challenge command)) }
 {
-    let codes_at = put_idm_of(out, at, command, idm);
-    let blocks_at = put_codes_of(out, codes_at, payload, command);
-    let fixed_at = put_blocks_of(out, blocks_at, payload, command);
-    let package_at = put_fixed_of(out, fixed_at, command, challenge);
-    put_package_of(out, package_at, payload, command)
+    put_idm_of(out, command, idm);
+    put_codes_of(out, payload, command);
+    put_blocks_of(out, payload, command);
+    put_fixed_of(out, command, challenge);
+    put_package_of(out, payload, command);
 }
 
-#[tactic(auto, unfolding(crate::specs::Answer::row_of, felica_put::specs::Put::put))]
-fn put_idm_of(out: &mut [u8], at: usize, command: Command, idm: [u8; 8]) -> usize
-    ensures { (s ch : List ℕ) → buffer out.new result ≡ put (buffer out.old at) (idm_text (row_of s ch command).idm idm) }
+#[tactic(auto, unfolding(crate::specs::Answer::row_of), using(felica_put::proofs::Laws::puts_nothing))]
+fn put_idm_of(out: &mut Output<u8>, command: Command, idm: [u8; 8])
+    ensures { (s ch : List ℕ) → Puts out.old out.new (idm_text (row_of s ch command).idm idm) }
 {
     match command {
         Command::Polling { .. }
@@ -45,14 +45,14 @@ fn put_idm_of(out: &mut [u8], at: usize, command: Command, idm: [u8; 8]) -> usiz
         | Command::RegisterIssueId { .. }
         | Command::RegisterArea { .. }
         | Command::RegisterService { .. }
-        | Command::ChangeSystemBlock => at,
-        _ => put_idm(out, at, idm),
+        | Command::ChangeSystemBlock => {}
+        _ => put_idm(out, idm),
     }
 }
 
-#[tactic(auto, unfolding(crate::specs::Answer::row_of, felica_put::specs::Put::put))]
-fn put_codes_of(out: &mut [u8], at: usize, payload: &[u8], command: Command) -> usize
-    ensures { (ch : List ℕ) → buffer out.new result ≡ put (buffer out.old at) (row_of payload.now ch command).codes }
+#[tactic(auto, unfolding(crate::specs::Answer::row_of), using(felica_put::proofs::Laws::puts_nothing))]
+fn put_codes_of(out: &mut Output<u8>, payload: &[u8], command: Command)
+    ensures { (ch : List ℕ) → Puts out.old out.new (row_of payload.now ch command).codes }
 {
     match command {
         Command::RequestService { service_codes }
@@ -60,37 +60,34 @@ fn put_codes_of(out: &mut [u8], at: usize, payload: &[u8], command: Command) -> 
         | Command::ReadWithoutEncryption { service_codes, .. }
         | Command::WriteWithoutEncryption { service_codes, .. } => put_first(
             out,
-            at,
             payload,
             service_codes,
         ),
         Command::RequestBlockInformation { node_codes }
-        | Command::RequestBlockInformationEx { node_codes } => put_first(
-            out, at, payload, node_codes,
-        ),
+        | Command::RequestBlockInformationEx { node_codes } => put_first(out, payload, node_codes),
         Command::Authentication1 { areas, services } => put_areas_and_services(
-            out, at, payload, areas, services,
+            out, payload, areas, services,
         ),
         Command::GetNodeProperty {
             node_property_type,
             node_codes,
-        } => put_type_and_nodes(out, at, payload, node_property_type, node_codes),
+        } => put_type_and_nodes(out, payload, node_property_type, node_codes),
         Command::Authentication1V2 {
             operation_parameter,
             nodes,
-        } => put_operation_and_nodes(out, at, payload, operation_parameter, nodes),
-        _ => at,
+        } => put_operation_and_nodes(out, payload, operation_parameter, nodes),
+        _ => {}
     }
 }
 
-#[tactic(auto, unfolding(crate::specs::Answer::row_of, felica_put::specs::Put::put))]
-fn put_blocks_of(out: &mut [u8], at: usize, payload: &[u8], command: Command) -> usize
-    ensures { (ch : List ℕ) → buffer out.new result ≡ put (buffer out.old at) (row_of payload.now ch command).blocks }
+#[tactic(auto, unfolding(crate::specs::Answer::row_of), using(felica_put::proofs::Laws::puts_nothing))]
+fn put_blocks_of(out: &mut Output<u8>, payload: &[u8], command: Command)
+    ensures { (ch : List ℕ) → Puts out.old out.new (row_of payload.now ch command).blocks }
 {
     match command {
         Command::ReadWithoutEncryption { block_list, .. }
         | Command::Read { block_list }
-        | Command::ReadV2 { block_list } => put_block_list(out, at, payload, block_list),
+        | Command::ReadV2 { block_list } => put_block_list(out, payload, block_list),
         Command::WriteWithoutEncryption {
             block_list,
             data,
@@ -98,136 +95,118 @@ fn put_blocks_of(out: &mut [u8], at: usize, payload: &[u8], command: Command) ->
         }
         | Command::Write { block_list, data }
         | Command::WriteV2 { block_list, data } => put_blocks_and_data(
-            out, at, payload, block_list, data,
+            out, payload, block_list, data,
         ),
-        _ => at,
+        _ => {}
     }
 }
 
-fn put_fixed_of(out: &mut [u8], at: usize, command: Command, challenge: [u8; 16]) -> usize
-    ensures { (s : List ℕ) → buffer out.new result ≡ put (buffer out.old at) (row_of s challenge command).fixed }
+#[tactic(auto, unfolding(crate::specs::Answer::row_of), using(felica_put::proofs::Laws::puts_nothing))]
+fn put_fixed_of(out: &mut Output<u8>, command: Command, challenge: [u8; 16])
+    ensures { (s : List ℕ) → Puts out.old out.new (row_of s challenge command).fixed }
 {
     match command {
         Command::Polling {
             system_code,
             request_code,
             time_slots,
-        } => put_polling(out, at, system_code, request_code, time_slots),
-        Command::SearchServiceCode { service_index } => put_index(out, at, service_index),
-        Command::Authentication1 { .. } => put_challenge_8(out, at, challenge),
-        Command::Authentication2 => put_challenge_8(out, at, challenge),
+        } => put_polling(out, system_code, request_code, time_slots),
+        Command::SearchServiceCode { service_index } => put_index(out, service_index),
+        Command::Authentication1 { .. } | Command::Authentication2 => {
+            put_challenge_8(out, challenge)
+        }
         Command::RequestCodeList {
             parent_node_code,
             index,
-        } => put_parent_and_index(out, at, parent_node_code.0, index),
+        } => put_parent_and_index(out, parent_node_code.0, index),
         Command::SetParameter {
             encryption_type,
             packet_type,
-        } => put_types(out, at, encryption_type, packet_type),
-        Command::GetAreaInformation { node_code } => put_node(out, at, node_code.0),
-        Command::GetContainerProperty { property } => put_property(out, at, property.index()),
-        Command::Authentication1V2 { .. } => put_challenge_16(out, at, challenge),
-        Command::Authentication2V2 => put_challenge_16(out, at, challenge),
-        Command::RegisterIssueId { .. } => put_issue(out, at, challenge),
-        Command::RegisterArea { area_code, .. } => put_node(out, at, area_code.0),
-        Command::RegisterService { service_code, .. } => put_node(out, at, service_code.0),
-        _ => at,
+        } => put_types(out, encryption_type, packet_type),
+        Command::GetAreaInformation { node_code } => put_node(out, node_code.0),
+        Command::GetContainerProperty { property } => put_property(out, property.index()),
+        Command::Authentication1V2 { .. } | Command::Authentication2V2 => {
+            put_challenge_16(out, challenge)
+        }
+        Command::RegisterIssueId { .. } => put_issue(out, challenge),
+        Command::RegisterArea { area_code, .. } => put_node(out, area_code.0),
+        Command::RegisterService { service_code, .. } => put_node(out, service_code.0),
+        _ => {}
     }
 }
 
-#[tactic(auto, unfolding(crate::specs::Answer::row_of, felica_put::specs::Put::put))]
-fn put_package_of(out: &mut [u8], at: usize, payload: &[u8], command: Command) -> usize
-    ensures { (ch : List ℕ) → buffer out.new result ≡ put (buffer out.old at) (row_of payload.now ch command).issue_package }
+#[tactic(auto, unfolding(crate::specs::Answer::row_of), using(felica_put::proofs::Laws::puts_nothing))]
+fn put_package_of(out: &mut Output<u8>, payload: &[u8], command: Command)
+    ensures { (ch : List ℕ) → Puts out.old out.new (row_of payload.now ch command).issue_package }
 {
     match command {
         Command::RegisterIssueId { package }
         | Command::RegisterArea { package, .. }
-        | Command::RegisterService { package, .. } => put_package(out, at, payload, package),
-        _ => at,
+        | Command::RegisterService { package, .. } => put_package(out, payload, package),
+        _ => {}
     }
 }
 
-fn put_areas_and_services(
-    out: &mut [u8],
-    at: usize,
-    payload: &[u8],
-    areas: Part,
-    services: Part,
-) -> usize
-    ensures { buffer out.new result ≡ put (buffer out.old at) (first_field payload.now areas ++ second_field payload.now services) }
+fn put_areas_and_services(out: &mut Output<u8>, payload: &[u8], areas: Part, services: Part)
+    ensures { Puts out.old out.new (first_field payload.now areas ++ second_field payload.now services) }
 {
-    let next = put_first(out, at, payload, areas);
-    put_codes_field(out, next, b" second=", payload, services)
+    put_first(out, payload, areas);
+    put_codes_field(out, b" second=", payload, services);
 }
 
 fn put_type_and_nodes(
-    out: &mut [u8],
-    at: usize,
+    out: &mut Output<u8>,
     payload: &[u8],
     node_property_type: NodePropertyType,
     node_codes: Part,
-) -> usize
-    ensures { buffer out.new result ≡ put (buffer out.old at) (byte_field " type=" (node_property_byte node_property_type) ++ first_field payload.now node_codes) }
+)
+    ensures { Puts out.old out.new (byte_field " type=" (node_property_byte node_property_type) ++ first_field payload.now node_codes) }
 {
-    let next = put_byte_field(out, at, b" type=", node_property_type.to_byte());
-    put_first(out, next, payload, node_codes)
+    put_byte_field(out, b" type=", node_property_type.to_byte());
+    put_first(out, payload, node_codes);
 }
 
 fn put_operation_and_nodes(
-    out: &mut [u8],
-    at: usize,
+    out: &mut Output<u8>,
     payload: &[u8],
     operation_parameter: u8,
     nodes: Part,
-) -> usize
-    ensures { buffer out.new result ≡ put (buffer out.old at) (byte_field " operation=" operation_parameter ++ first_field payload.now nodes) }
+)
+    ensures { Puts out.old out.new (byte_field " operation=" operation_parameter ++ first_field payload.now nodes) }
 {
-    let next = put_byte_field(out, at, b" operation=", operation_parameter);
-    put_first(out, next, payload, nodes)
+    put_byte_field(out, b" operation=", operation_parameter);
+    put_first(out, payload, nodes);
 }
 
-fn put_blocks_and_data(
-    out: &mut [u8],
-    at: usize,
-    payload: &[u8],
-    block_list: Part,
-    data: Part,
-) -> usize
-    ensures { buffer out.new result ≡ put (buffer out.old at) (blocks_field payload.now block_list ++ data_field payload.now «data») }
+fn put_blocks_and_data(out: &mut Output<u8>, payload: &[u8], block_list: Part, data: Part)
+    ensures { Puts out.old out.new (blocks_field payload.now block_list ++ data_field payload.now «data») }
 {
-    let next = put_block_list(out, at, payload, block_list);
-    put_part_field(out, next, b" data=", payload, data)
+    put_block_list(out, payload, block_list);
+    put_part_field(out, b" data=", payload, data);
 }
 
-fn put_polling(
-    out: &mut [u8],
-    at: usize,
-    system_code: u16,
-    request_code: u8,
-    time_slots: u8,
-) -> usize
-    ensures { buffer out.new result ≡ put (buffer out.old at) (word_field " system=" system_code ++ (byte_field " request=" request_code ++ byte_field " slots=" time_slots)) }
+fn put_polling(out: &mut Output<u8>, system_code: u16, request_code: u8, time_slots: u8)
+    ensures { Puts out.old out.new (word_field " system=" system_code ++ (byte_field " request=" request_code ++ byte_field " slots=" time_slots)) }
 {
-    let request_at = put_word_field(out, at, b" system=", system_code);
-    let slots_at = put_byte_field(out, request_at, b" request=", request_code);
-    put_byte_field(out, slots_at, b" slots=", time_slots)
+    put_word_field(out, b" system=", system_code);
+    put_byte_field(out, b" request=", request_code);
+    put_byte_field(out, b" slots=", time_slots);
 }
 
-fn put_parent_and_index(out: &mut [u8], at: usize, parent: u16, index: u16) -> usize
-    ensures { buffer out.new result ≡ put (buffer out.old at) (word_field " parent=" parent ++ word_field " index=" index) }
+fn put_parent_and_index(out: &mut Output<u8>, parent: u16, index: u16)
+    ensures { Puts out.old out.new (word_field " parent=" parent ++ word_field " index=" index) }
 {
-    let next = put_word_field(out, at, b" parent=", parent);
-    put_index(out, next, index)
+    put_word_field(out, b" parent=", parent);
+    put_index(out, index);
 }
 
 fn put_types(
-    out: &mut [u8],
-    at: usize,
+    out: &mut Output<u8>,
     encryption_type: SetParameterEncryptionType,
     packet_type: SetParameterPacketType,
-) -> usize
-    ensures { buffer out.new result ≡ put (buffer out.old at) (byte_field " encryption=" (encryption_byte encryption_type) ++ byte_field " packet=" (packet_byte packet_type)) }
+)
+    ensures { Puts out.old out.new (byte_field " encryption=" (encryption_byte encryption_type) ++ byte_field " packet=" (packet_byte packet_type)) }
 {
-    let next = put_byte_field(out, at, b" encryption=", encryption_type.to_byte());
-    put_byte_field(out, next, b" packet=", packet_type.to_byte())
+    put_byte_field(out, b" encryption=", encryption_type.to_byte());
+    put_byte_field(out, b" packet=", packet_type.to_byte());
 }

@@ -1,30 +1,30 @@
 // The line that answers a call of the writer.
 ghost use Rattle.std.specs.Prelude.{◌≡◌};
-ghost use Rattle.felica_put.specs.Put.{buffer, put};
+ghost use Rattle.felica_put.specs.Output.{Puts};
 ghost use Rattle.felica_write.specs.Writing.{meaning, outcome};
 ghost use Rattle.felica_answers.specs.Written.{bytes_line, written_line};
 
-use crate::lists::front_bytes;
+use crate::lists::front;
 use felica_fields::refusal::put_refusal;
-use felica_put::{put_byte, put_bytes};
+use felica_put::Output;
 use felica_text::put::{put_decimal, put_hex};
 use felica_write::Written;
 
 // The bytes stand at the front of the buffer that the writer was lent.
-pub fn put_written(out: &mut [u8], at: usize, written: Written, room: &[u8]) -> usize
-    ensures { buffer out.new result ≡ put (buffer out.old at) (written_line (outcome (meaning written) room.now)) }
+pub fn put_written(out: &mut Output<u8>, written: Written, room: &[u8])
+    ensures { Puts out.old out.new (written_line (outcome (meaning written) room.now)) }
 {
     match written {
-        Written::Length(count) => put_count_and_bytes(out, at, count, front_bytes(room, count)),
-        Written::Refused(refusal) => put_refusal(out, at, refusal),
+        Written::Length(count) => put_count_and_bytes(out, count, front(room, count)),
+        Written::Refused(refusal) => put_refusal(out, refusal),
     }
 }
 
-fn put_count_and_bytes(out: &mut [u8], at: usize, count: usize, bytes: &[u8]) -> usize
-    ensures { buffer out.new result ≡ put (buffer out.old at) (bytes_line count bytes.now) }
+fn put_count_and_bytes(out: &mut Output<u8>, count: usize, bytes: &[u8])
+    ensures { Puts out.old out.new (bytes_line count bytes.now) }
 {
-    let count_at = put_bytes(out, at, b"OK ");
-    let space_at = put_decimal(out, count_at, count);
-    let bytes_at = put_byte(out, space_at, b' ');
-    put_hex(out, bytes_at, bytes)
+    out.put_all(b"OK ");
+    put_decimal(out, count);
+    out.put(b' ');
+    put_hex(out, bytes);
 }

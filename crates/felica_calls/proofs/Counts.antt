@@ -1,36 +1,21 @@
 -- A call has no more bytes than the buffer that they were written to, and lends no buffer that is too long.
 -- Assumes nothing.
-use mathlib.Core.Path.{◌≡◌, refl, ap}
-use mathlib.Core.Bool.{Bool, true, false, not, cond}
-use mathlib.Core.List.{List}
-use Prim.Native.Nat.{ℕ, ◌/◌, ◌%◌, ◌≤◌, zero-le}
-use native.Mathlib.Omega.{arith}
-use lib.Dec.{ltb, eqb}
-use lib.ListN.{length, drop, length-append, length-drop}
-use borrow.Author.Tests.{ltb-false}
+use Rattle.std.proofs.Common.{ℕ, ◌≤◌, ◌/◌, ◌%◌, ◌≡◌, refl, sym, subst, arith, zero-le, Bool, true, false, not, cond, List, length, drop, ltb, eqb, ltb-false, length-append, length-drop}
+use Rattle.std.specs.Prelude.{Result, Ok, Err, IfOk}
 use Rattle.felica_text.specs.Text.{text}
+use Rattle.felica_calls.specs.Read.{Read, read, if_ok, read_in, ◌>>=◌}
 use Rattle.felica_calls.specs.Field.{field_of, behind_field, next_field, behind_next, is_byte, is_name}
 use Rattle.felica_calls.specs.Number.{all_decimal, decimal_from, read_number}
-use Rattle.felica_calls.specs.Sizes.{max_lent, Lent, if_number, next_size, read_sizes}
-use Rattle.felica_calls.specs.Bytes.{all_digits, bytes_of, Decoded, decoded, read_bytes, read_last}
+use Rattle.felica_calls.specs.Sizes.{max_lent, Lent, next_size, read_sizes}
+use Rattle.felica_calls.specs.Bytes.{all_digits, bytes_of, read_bytes, read_last}
 use Rattle.felica_calls.specs.Source.{read_source, behind_source, read_command_code}
-use Rattle.felica_calls.specs.Write.{max_room, write_with}
-use Rattle.felica_calls.specs.Call.{Called, called, with_bytes, asked_of, parse_of, long_of, list_with, list_of, read_call, count_of}
+use Rattle.felica_calls.specs.Write.{max_room}
+use Rattle.felica_calls.specs.Call.{asked, list_of, read_call, count_of}
 use Rattle.felica_calls.specs.declared.fault.Fault.{Fault}
-use Rattle.felica_calls.specs.declared.fault.Fault.TheVariants.{EmptyLine}
-use Rattle.felica_calls.specs.declared.number.Number.{Number}
-use Rattle.felica_calls.specs.declared.number.Number.TheVariants.{Number as TheNumber, Wrong as WrongNumber}
-use Rattle.felica_calls.specs.declared.sizes.SizesRead.{SizesRead}
-use Rattle.felica_calls.specs.declared.sizes.SizesRead.TheVariants.{Sizes as TheSizes, Wrong as WrongSizes}
+use Rattle.felica_calls.specs.declared.fault.Fault.TheVariants.{ExtraField}
 use Rattle.felica_calls.specs.declared.source.Source.{Source}
-use Rattle.felica_calls.specs.declared.source.SourceRead.{SourceRead}
-use Rattle.felica_calls.specs.declared.source.SourceRead.TheVariants.{Source as TheSource, Wrong as WrongSource}
-use Rattle.felica_calls.specs.declared.source.Code.{Code}
-use Rattle.felica_calls.specs.declared.source.Code.TheVariants.{Code as TheCode, Wrong as WrongCode}
-use Rattle.felica_calls.specs.declared.bytes.Bytes.{Bytes}
-use Rattle.felica_calls.specs.declared.bytes.Bytes.TheVariants.{Count, Wrong as WrongBytes}
 use Rattle.felica_calls.specs.declared.call.Call.{Call}
-use Rattle.felica_calls.specs.declared.call.Call.TheVariants.{Parse, Long, List as ListCall, Write, Wrong}
+use Rattle.felica_calls.specs.declared.call.Call.TheVariants.{Parse, Long, List as ListCall, Write}
 use Rattle.felica_calls.proofs.Reading.{length_bytes}
 
 -- what holds of both answers of a test
@@ -39,123 +24,126 @@ either P true a b p q = p
 either P false a b p q = q refl
 
 -- a length is at most that of the longest buffer
-abbrev Below : Number → Type 0
-Below (TheNumber n) = n ≤ max_lent
-Below (WrongNumber fault) = Unit
+abbrev Below : Result ℕ Fault → Type 0
+Below r = IfOk r (λ n. n ≤ max_lent)
 
-number_below : (s : List ℕ) → Below (read_number max_lent s)
+size_below : (s : List ℕ) → Below (next_size s)
 unfolding read_number
-number_below s =
-    either Below (eqb (length s) 0) _ _ tt λ a.
-    either Below (not (all_decimal s)) _ _ tt λ b.
-    either Below (ltb max_lent (decimal_from 0 s)) _ _ tt λ c.
-    ltb-false max_lent (decimal_from 0 s) c
+size_below s =
+    let field = next_field s in
+    either Below (eqb (length field) 0) _ _ tt λ a.
+    either Below (not (all_decimal field)) _ _ tt λ b.
+    either Below (ltb max_lent (decimal_from 0 field)) _ _ tt λ c.
+    ltb-false max_lent (decimal_from 0 field) c
 
--- so are the five lengths
-abbrev AllBelow : SizesRead → Type 0
-AllBelow (TheSizes z) = Lent z
-AllBelow (WrongSizes fault) = Unit
+-- so are all five
+all_below : (first second numbers places modes : Result ℕ Fault) (over : Bool) → Below first → Below second → Below numbers → Below places → Below modes
+    → IfOk
+    (first >>= λ f. second >>= λ g. numbers >>= λ n. places >>= λ p. modes >>= λ m.
+    cond over (Ok (record { first = f; second = g; numbers = n; places = p; modes = m })) (Err ExtraField))
+    Lent
+all_below (Ok f) (Ok g) (Ok n) (Ok p) (Ok m) true a b c d e = (a, b, c, d, e)
+all_below (Ok f) (Ok g) (Ok n) (Ok p) (Ok m) false a b c d e = tt
+all_below (Ok f) (Ok g) (Ok n) (Ok p) (Err fault) over a b c d e = tt
+all_below (Ok f) (Ok g) (Ok n) (Err fault) modes over a b c d e = tt
+all_below (Ok f) (Ok g) (Err fault) places modes over a b c d e = tt
+all_below (Ok f) (Err fault) numbers places modes over a b c d e = tt
+all_below (Err fault) second numbers places modes over a b c d e = tt
 
-if_below : (found : Number) (f : ℕ → SizesRead) → Below found → ((n : ℕ) → n ≤ max_lent → AllBelow (f n)) → AllBelow (if_number found f)
-if_below (TheNumber n) f h k = k n h
-if_below (WrongNumber fault) f h k = tt
-
-next_below : (s : List ℕ) (f : ℕ → List ℕ → SizesRead) → ((n : ℕ) (rest : List ℕ) → n ≤ max_lent → AllBelow (f n rest)) → AllBelow (next_size s f)
-unfolding next_size
-next_below s f k = if_below (read_number max_lent (next_field s)) _ (number_below (next_field s)) (λ n h. k n (behind_next s) h)
-
-sizes_below : (s : List ℕ) → AllBelow (read_sizes s)
+sizes_below : (s : List ℕ) → IfOk (read_sizes s) Lent
 unfolding read_sizes
 sizes_below s =
-    next_below _ _ λ first s₁ a.
-    next_below _ _ λ second s₂ b.
-    next_below _ _ λ numbers s₃ c.
-    next_below _ _ λ places s₄ d.
-    next_below _ _ λ modes s₅ e.
-    either AllBelow (eqb (length s₅) 0) _ _ (a, b, c, d, e) λ f. tt
+    let s₁ = behind_next s in
+    let s₂ = behind_next s₁ in
+    let s₃ = behind_next s₂ in
+    let s₄ = behind_next s₃ in
+    all_below (next_size s) (next_size s₁) (next_size s₂) (next_size s₃) (next_size s₄) (eqb (length (behind_next s₄)) 0)
+    (size_below s) (size_below s₁) (size_below s₂) (size_below s₃) (size_below s₄)
 
-abbrev count_is : Bytes → ℕ
-count_is (Count n) = n
-count_is (WrongBytes fault) = 0
+-- what holds of a value and what the buffer holds with it
+abbrev Has : {A : Type 0} → (A → List ℕ → Type 0) → Read A → Type 0
+Has P r = IfOk r.answer (λ a. P a r.buffer)
 
-abbrev Fit : Decoded → Type 0
-Fit d = count_is d.answer ≤ length d.buffer
+module _ {A B : Type 0} (Q : B → List ℕ → Type 0) where
+  then_has : (P : A → Type 0) (r : Result A Fault) (held : List ℕ) (f : A → Read B) → IfOk r P → ((a : A) → P a → Has Q (f a)) → Has Q (if_ok r held f)
+  then_has P (Ok a) held f p q = q a p
+  then_has P (Err fault) held f p q = tt
 
-bytes_fit : (s held : List ℕ) → Fit (read_bytes s held)
+  in_has : (P : A → List ℕ → Type 0) (f : A → B) (r : Result A Fault) (held : List ℕ) → IfOk r (λ a. P a held) → ((a : A) → P a held → Q (f a) held)
+      → Has Q (read_in f (read r held))
+  in_has P f (Ok a) held p q = q a p
+  in_has P f (Err fault) held p q = tt
+
+any : {A : Type 0} (r : Result A Fault) → IfOk r (λ _. Unit {0})
+any (Ok a) = tt
+any (Err fault) = tt
+
+abbrev Fit : ℕ → List ℕ → Type 0
+Fit n held = n ≤ length held
+
+bytes_fit : (s held : List ℕ) → Has Fit (read_bytes s held)
 unfolding read_bytes
 bytes_fit s held =
-    either Fit (eqb (length s) 0) _ _ (zero-le) λ a.
-    either Fit (is_byte 45 s) _ _ (zero-le) λ b.
-    either Fit (not (all_digits s)) _ _ (zero-le) λ c.
-    either Fit (eqb (length s % 2) 1) _ _ (zero-le) λ d.
-    either Fit (ltb (length held) (length s / 2)) _ _ (zero-le) λ e.
+    either (Has Fit) (eqb (length s) 0) _ _ tt λ a.
+    either (Has Fit) (is_byte 45 s) _ _ zero-le λ b.
+    either (Has Fit) (not (all_digits s)) _ _ tt λ c.
+    either (Has Fit) (eqb (length s % 2) 1) _ _ tt λ d.
+    either (Has Fit) (ltb (length held) (length s / 2)) _ _ tt λ e.
     omega (arith, ltb-false (length held) (length s / 2) e, length-append (bytes_of s) (drop (length s / 2) held), length_bytes s, length-drop (length s / 2) held)
 
-last_fit : (s held : List ℕ) → Fit (read_last s held)
+last_fit : (s held : List ℕ) → Has Fit (read_last s held)
 unfolding read_last
-last_fit s held =
-    either Fit (ltb (length (next_field s)) (length (drop 1 s))) _ _ (zero-le) λ b.
-    bytes_fit (drop 1 s) held
+last_fit s held = either (Has Fit) (ltb (length (next_field s)) (length (drop 1 s))) _ _ tt λ b. bytes_fit (drop 1 s) held
 
-abbrev pub CallLends : Call → Type 0
+abbrev AskedFit : Source × ℕ → List ℕ → Type 0
+AskedFit p held = p.1 ≤ length held
+
+asked_fit : (s held : List ℕ) → Has AskedFit (asked s held)
+unfolding asked
+asked_fit s held =
+    then_has AskedFit (λ _. Unit {0}) (read_source s) held _ (any (read_source s)) λ source t.
+    let d = read_last (behind_source source s) held in
+    in_has AskedFit Fit _ d.answer d.buffer (last_fit (behind_source source s) held) λ n fit. fit
+
+abbrev CallLends : Call → Type 0
 CallLends (Parse source n) = Unit
 CallLends (Long source n) = Unit
 CallLends (ListCall source n z) = Lent z
 CallLends (Write size c) = Unit
-CallLends (Wrong fault) = Unit
 
-record Fits (c : Called) : Type 0 where
-  count : count_of c.call ≤ length c.buffer
-  lends : CallLends c.call
+pub record Fits (call : Call) (held : List ℕ) : Type 0 where
+  pub count : count_of call ≤ length held
+  pub lends : CallLends call
 
-wrong_fits : (fault : Fault) (held : List ℕ) → Fits (called (Wrong fault) held)
-wrong_fits fault held = record { count = zero-le; lends = tt }
+list_fits : (s held : List ℕ) → Has Fits (list_of s held)
+unfolding list_of
+list_fits s held =
+    then_has Fits (λ _. Unit {0}) (read_source s) held _ (any (read_source s)) λ source t.
+    let rest = behind_source source s in
+    then_has Fits Lent (read_sizes (behind_next rest)) held _ (sizes_below (behind_next rest)) λ z lent.
+    let d = read_bytes (next_field rest) held in
+    in_has Fits Fit _ d.answer d.buffer (bytes_fit (next_field rest) held) λ n fit. record { count = fit; lends = lent }
 
-bytes_call : (make : ℕ → Call) → ((n : ℕ) → count_of (make n) ≡ n) → ((n : ℕ) → CallLends (make n)) → (answer : Bytes) (held : List ℕ) → Fit (decoded answer held)
-    → Fits (with_bytes make (decoded answer held))
-bytes_call make same lends (Count n) held h = record { count = rw (same n) h; lends = lends n }
-bytes_call make same lends (WrongBytes fault) held h = wrong_fits fault held
+write_fits : (size code : Result ℕ Fault) (held : List ℕ) → Has Fits (read (size >>= λ n. code >>= λ c. Ok (Write n c)) held)
+write_fits (Ok n) (Ok c) held = record { count = zero-le; lends = tt }
+write_fits (Ok n) (Err fault) held = tt
+write_fits (Err fault) code held = tt
 
-parse_fits : (found : SourceRead) (s held : List ℕ) → Fits (asked_of parse_of found s held)
-parse_fits (TheSource source) s held =
-    let d = read_last (behind_source source s) held in
-    bytes_call (Parse source) (λ n. refl) (λ n. tt) d.answer d.buffer (last_fit (behind_source source s) held)
-parse_fits (WrongSource fault) s held = wrong_fits fault held
+asked_fits : (make : Source × ℕ → Call) → ((p : Source × ℕ) → count_of (make p) ≡ p.1) → ((p : Source × ℕ) → CallLends (make p)) → (s held : List ℕ)
+    → Has Fits (read_in make (asked s held))
+asked_fits make same lends s held =
+    let d = asked s held in
+    in_has Fits AskedFit make d.answer d.buffer (asked_fit s held) λ p fit. record { count = rw (same p) fit; lends = lends p }
 
-long_fits : (found : SourceRead) (s held : List ℕ) → Fits (asked_of long_of found s held)
-long_fits (TheSource source) s held =
-    let d = read_last (behind_source source s) held in
-    bytes_call (Long source) (λ n. refl) (λ n. tt) d.answer d.buffer (last_fit (behind_source source s) held)
-long_fits (WrongSource fault) s held = wrong_fits fault held
-
-sized_fits : (source : Source) (found : SizesRead) (s held : List ℕ) → AllBelow found → Fits (list_with source found s held)
-sized_fits source (TheSizes z) s held l =
-    let d = read_bytes (next_field s) held in
-    bytes_call (λ n. ListCall source n z) (λ n. refl) (λ n. l) d.answer d.buffer (bytes_fit (next_field s) held)
-sized_fits source (WrongSizes fault) s held l = wrong_fits fault held
-
-list_fits : (found : SourceRead) (s held : List ℕ) → Fits (asked_of list_of found s held)
-list_fits (TheSource source) s held =
-    sized_fits source (read_sizes (behind_next (behind_source source s))) (behind_source source s) held (sizes_below (behind_next (behind_source source s)))
-list_fits (WrongSource fault) s held = wrong_fits fault held
-
-write_fits : (size : Number) (found : Code) (held : List ℕ) → Fits (called (write_with size found) held)
-write_fits (TheNumber size) (TheCode c) held = record { count = zero-le; lends = tt }
-write_fits (TheNumber size) (WrongCode fault) held = wrong_fits fault held
-write_fits (WrongNumber fault) found held = wrong_fits fault held
-
-call_fits : (line held : List ℕ) → Fits (read_call line held)
+call_fits : (line held : List ℕ) → Has Fits (read_call line held)
 unfolding read_call
 call_fits line held =
-    either Fits (eqb (length line) 0) _ _ (wrong_fits EmptyLine held) λ a.
-    either Fits (is_byte 76 (field_of line)) _ _ (list_fits (read_source (drop 1 (behind_field line))) (drop 1 (behind_field line)) held) λ b.
-    either Fits (is_byte 87 (field_of line)) _ _ (write_fits (read_number max_room (next_field (behind_field line))) (read_command_code (next_field (behind_next (behind_field line)))) held) λ c.
-    either Fits (is_name (text "LONG") (field_of line)) _ _ (long_fits (read_source (drop 1 (behind_field line))) (drop 1 (behind_field line)) held) λ d.
-    parse_fits (read_source line) line held
+    let rest = behind_field line in
+    either (Has Fits) (eqb (length line) 0) _ _ tt λ a.
+    either (Has Fits) (is_byte 76 (field_of line)) _ _ (list_fits (drop 1 rest) held) λ b.
+    either (Has Fits) (is_byte 87 (field_of line)) _ _ (write_fits (read_number max_room (next_field rest)) (read_command_code (next_field (behind_next rest))) held) λ c.
+    either (Has Fits) (is_name (text "LONG") (field_of line)) _ _ (asked_fits (λ p. Long p.0 p.1) (λ p. refl) (λ p. tt) (drop 1 rest) held) λ d.
+    asked_fits (λ p. Parse p.0 p.1) (λ p. refl) (λ p. tt) line held
 
-module _ (line held : List ℕ) {call : Call} {m : List ℕ} (e : called call m ≡ read_call line held) where
-  pub count_within : count_of call ≤ length m
-  count_within = rw (ap (λ c. c.call) e, ap (λ c. c.buffer) e) (call_fits line held).count
-
-  pub sizes_within : CallLends call
-  sizes_within = rw (ap (λ c. c.call) e) (call_fits line held).lends
+pub call_within : (line held : List ℕ) {call : Call} {m : List ℕ} → read (Ok call) m ≡ read_call line held → Fits call m
+call_within line held e = subst (Has Fits) (sym e) (call_fits line held)

@@ -1,15 +1,14 @@
 -- The bytes of a call: hexadecimal digits, which go to a lent buffer.
 -- Assumes nothing.
-use Rattle.std.specs.Prelude.{ℕ, ◌+◌, ◌*◌, ◌/◌, ◌%◌, Bool, true, false, not, cond, List, [], ◌∷◌, ◌++◌, length, drop, ltb, eqb}
+use Rattle.std.specs.Prelude.{ℕ, ◌+◌, ◌*◌, ◌/◌, ◌%◌, Bool, true, false, not, cond, List, [], ◌∷◌, ◌++◌, length, drop, ltb, eqb, Ok, Err}
+use Rattle.std.specs.List.{list_all}
 use Prim.Native.Char.{code}
-use Rattle.felica_format.specs.Basic.{◌and◌}
 use Rattle.felica_text.specs.Text.{digit_of}
 use Rattle.felica_text.specs.declared.hex.Digit.{Digit}
 use Rattle.felica_text.specs.declared.hex.Digit.TheVariants.{Value, NoDigit}
 use Rattle.felica_calls.specs.Field.{next_field, is_byte}
+use Rattle.felica_calls.specs.Read.{Read, read}
 use Rattle.felica_calls.specs.declared.fault.Fault.TheVariants.{MissingField, ExtraField, NoDigit as NotADigit, OddDigits, TooManyBytes}
-use Rattle.felica_calls.specs.declared.bytes.Bytes.{Bytes}
-use Rattle.felica_calls.specs.declared.bytes.Bytes.TheVariants.{Count, Wrong as WrongBytes}
 
 -- hexadecimal digits as bytes; what is no digit counts as 0
 abbrev pub is_digit : Digit → Bool
@@ -21,8 +20,7 @@ value_of (Value v) = v
 value_of NoDigit = 0
 
 unfoldable pub all_digits : List ℕ → Bool
-all_digits [] = true
-all_digits (d ∷ ds) = is_digit (digit_of d) and all_digits ds
+all_digits s = list_all (λ d. is_digit (digit_of d)) s
 
 abbrev pub byte_of : ℕ → ℕ → ℕ
 byte_of high low = 16 * value_of (digit_of high) + value_of (digit_of low)
@@ -32,24 +30,16 @@ bytes_of [] = []
 bytes_of (d ∷ []) = []
 bytes_of (high ∷ low ∷ ds) = byte_of high low ∷ bytes_of ds
 
--- how many bytes there are, and what the lent buffer holds
-pub record Decoded : Type 0 where
-  pub answer : Bytes
-  pub buffer : List ℕ
-
-abbrev pub decoded : Bytes → List ℕ → Decoded
-decoded answer buffer = record { answer = answer; buffer = buffer }
-
--- `-` is no bytes
-unfoldable pub read_bytes : List ℕ → List ℕ → Decoded
+-- how many bytes there are; `-` is no bytes
+unfoldable pub read_bytes : List ℕ → List ℕ → Read ℕ
 read_bytes s buffer =
-    cond (eqb (length s) 0) (decoded (WrongBytes MissingField) buffer)
-    (cond (is_byte (code "-") s) (decoded (Count 0) buffer)
-    (cond (not (all_digits s)) (decoded (WrongBytes NotADigit) buffer)
-    (cond (eqb (length s % 2) 1) (decoded (WrongBytes OddDigits) buffer)
-    (cond (ltb (length buffer) (length s / 2)) (decoded (WrongBytes TooManyBytes) buffer)
-    (decoded (Count (length s / 2)) (bytes_of s ++ drop (length s / 2) buffer))))))
+    cond (eqb (length s) 0) (read (Err MissingField) buffer)
+    (cond (is_byte (code "-") s) (read (Ok 0) buffer)
+    (cond (not (all_digits s)) (read (Err NotADigit) buffer)
+    (cond (eqb (length s % 2) 1) (read (Err OddDigits) buffer)
+    (cond (ltb (length buffer) (length s / 2)) (read (Err TooManyBytes) buffer)
+    (read (Ok (length s / 2)) (bytes_of s ++ drop (length s / 2) buffer))))))
 
 -- the last field, with the space before it
-unfoldable pub read_last : List ℕ → List ℕ → Decoded
-read_last s buffer = cond (ltb (length (next_field s)) (length (drop 1 s))) (decoded (WrongBytes ExtraField) buffer) (read_bytes (drop 1 s) buffer)
+unfoldable pub read_last : List ℕ → List ℕ → Read ℕ
+read_last s buffer = cond (ltb (length (next_field s)) (length (drop 1 s))) (read (Err ExtraField) buffer) (read_bytes (drop 1 s) buffer)

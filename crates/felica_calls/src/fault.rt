@@ -1,11 +1,11 @@
 // What can be wrong with a call, and the line that says it.
 ghost use Rattle.std.specs.Prelude.{◌≡◌};
-ghost use Rattle.felica_put.specs.Put.{buffer, put};
-ghost use Rattle.felica_calls.specs.Fault.{fault_text};
+ghost use Rattle.felica_put.specs.Output.{Puts};
+ghost use Rattle.felica_calls.specs.Fault.{reason, fault_text};
 
-use felica_put::put_bytes;
+use felica_put::Output;
 
-#[derive(Clone, Copy)]
+#[derive(Clone, Copy, Debug, PartialEq, Eq)]
 pub enum Fault {
     EmptyLine,
     LineTooLong,
@@ -24,25 +24,33 @@ pub enum Fault {
     ValueTooLong,
 }
 
-pub fn put_fault(out: &mut [u8], at: usize, fault: Fault) -> usize
-    ensures { buffer out.new result ≡ put (buffer out.old at) (fault_text fault) }
-{
-    let next = put_bytes(out, at, b"BAD CALL: ");
-    match fault {
-        Fault::EmptyLine => put_bytes(out, next, b"empty line"),
-        Fault::LineTooLong => put_bytes(out, next, b"line too long"),
-        Fault::UnknownCall => put_bytes(out, next, b"unknown call"),
-        Fault::MissingField => put_bytes(out, next, b"missing field"),
-        Fault::ExtraField => put_bytes(out, next, b"extra field"),
-        Fault::CodeSize => put_bytes(out, next, b"command code not of two digits"),
-        Fault::NoDigit => put_bytes(out, next, b"not a hexadecimal digit"),
-        Fault::OddDigits => put_bytes(out, next, b"odd number of hexadecimal digits"),
-        Fault::TooManyBytes => put_bytes(out, next, b"too many bytes"),
-        Fault::NoNumber => put_bytes(out, next, b"not a decimal number"),
-        Fault::BufferTooLong => put_bytes(out, next, b"buffer too long"),
-        Fault::UnknownField => put_bytes(out, next, b"unknown field"),
-        Fault::FieldTwice => put_bytes(out, next, b"field given twice"),
-        Fault::MalformedValue => put_bytes(out, next, b"malformed value"),
-        Fault::ValueTooLong => put_bytes(out, next, b"value too long"),
+impl Fault {
+    pub fn reason(self) -> &'static [u8]
+        ensures { result.now ≡ reason self }
+    {
+        match self {
+            Fault::EmptyLine => b"empty line",
+            Fault::LineTooLong => b"line too long",
+            Fault::UnknownCall => b"unknown call",
+            Fault::MissingField => b"missing field",
+            Fault::ExtraField => b"extra field",
+            Fault::CodeSize => b"command code not of two digits",
+            Fault::NoDigit => b"not a hexadecimal digit",
+            Fault::OddDigits => b"odd number of hexadecimal digits",
+            Fault::TooManyBytes => b"too many bytes",
+            Fault::NoNumber => b"not a decimal number",
+            Fault::BufferTooLong => b"buffer too long",
+            Fault::UnknownField => b"unknown field",
+            Fault::FieldTwice => b"field given twice",
+            Fault::MalformedValue => b"malformed value",
+            Fault::ValueTooLong => b"value too long",
+        }
     }
+}
+
+pub fn put_fault(out: &mut Output<u8>, fault: Fault)
+    ensures { Puts out.old out.new (fault_text fault) }
+{
+    out.put_all(b"BAD CALL: ");
+    out.put_all(fault.reason());
 }

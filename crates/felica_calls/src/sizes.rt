@@ -1,18 +1,16 @@
 // The lengths behind a call of the list reader.
 ghost use Rattle.std.specs.Prelude.{◌≡◌};
-ghost use Rattle.felica_calls.specs.Field.{next_field};
-ghost use Rattle.felica_calls.specs.Number.{read_number};
-ghost use Rattle.felica_calls.specs.Sizes.{max_lent, read_sizes};
+ghost use Rattle.felica_calls.specs.Sizes.{read_sizes};
 
 use crate::fault::Fault;
-use crate::field::{behind_next, next_field};
-use crate::number::{Number, read_number};
+use crate::field::Fields;
+use crate::number::read_number;
 
 // The longest buffer that is lent. The longest list has 255 entries.
 pub const MAX_LENT: usize = 1024;
 
 // The lengths of the five buffers that are lent.
-#[derive(Clone, Copy)]
+#[derive(Clone, Copy, Debug, PartialEq, Eq)]
 pub struct Sizes {
     pub first: usize,
     pub second: usize,
@@ -21,54 +19,21 @@ pub struct Sizes {
     pub modes: usize,
 }
 
-#[derive(Clone, Copy)]
-pub(crate) enum SizesRead {
-    Sizes(Sizes),
-    Wrong(Fault),
-}
-
 // Five lengths, each behind a space, and nothing behind them.
-pub(crate) fn read_sizes(text: &[u8]) -> SizesRead
+#[tactic(auto, unfolding(crate::specs::Sizes::read_sizes))]
+pub(crate) fn read_sizes(text: &[u8]) -> Result<Sizes, Fault>
     ensures { result ≡ read_sizes text.now }
 {
-    let size = read_size(text);
-    let Number::Number(first) = size else {
-        return SizesRead::Wrong(size.fault());
+    let mut fields = Fields { rest: text };
+    let sizes = Sizes {
+        first: read_number(fields.take_next(), MAX_LENT)?,
+        second: read_number(fields.take_next(), MAX_LENT)?,
+        numbers: read_number(fields.take_next(), MAX_LENT)?,
+        places: read_number(fields.take_next(), MAX_LENT)?,
+        modes: read_number(fields.take_next(), MAX_LENT)?,
     };
-    let behind_first = behind_next(text);
-    let size = read_size(behind_first);
-    let Number::Number(second) = size else {
-        return SizesRead::Wrong(size.fault());
-    };
-    let behind_second = behind_next(behind_first);
-    let size = read_size(behind_second);
-    let Number::Number(numbers) = size else {
-        return SizesRead::Wrong(size.fault());
-    };
-    let behind_numbers = behind_next(behind_second);
-    let size = read_size(behind_numbers);
-    let Number::Number(places) = size else {
-        return SizesRead::Wrong(size.fault());
-    };
-    let behind_places = behind_next(behind_numbers);
-    let size = read_size(behind_places);
-    let Number::Number(modes) = size else {
-        return SizesRead::Wrong(size.fault());
-    };
-    if behind_next(behind_places).len() != 0 {
-        return SizesRead::Wrong(Fault::ExtraField);
+    if !fields.rest.is_empty() {
+        return Err(Fault::ExtraField);
     }
-    SizesRead::Sizes(Sizes {
-        first: first,
-        second: second,
-        numbers: numbers,
-        places: places,
-        modes: modes,
-    })
-}
-
-fn read_size(rest: &[u8]) -> Number
-    ensures { result ≡ read_number max_lent (next_field rest.now) }
-{
-    read_number(next_field(rest), MAX_LENT)
+    Ok(sizes)
 }

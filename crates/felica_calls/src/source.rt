@@ -1,13 +1,12 @@
 // What the bytes of a call are, by its name and, of a secure payload, the command code behind that.
 ghost use Rattle.std.specs.Prelude.{◌≡◌};
-ghost use Rattle.felica_calls.specs.Field.{next_field};
-ghost use Rattle.felica_calls.specs.Source.{read_source, behind_source, secure_source, read_command_code};
+ghost use Rattle.felica_calls.specs.Source.{read_source, behind_source, read_command_code};
 
 use crate::bytes::{all_digits, byte_of};
 use crate::fault::Fault;
-use crate::field::{behind_field, behind_next, field_of, is_byte, next_field};
+use crate::field::{behind_field, behind_next, field_of, next_field};
 
-#[derive(Clone, Copy)]
+#[derive(Clone, Copy, Debug, PartialEq, Eq)]
 pub enum Source {
     Frame,
     Payload,
@@ -15,61 +14,37 @@ pub enum Source {
     Secure(u8),
 }
 
-#[derive(Clone, Copy)]
-pub(crate) enum SourceRead {
-    Source(Source),
-    Wrong(Fault),
-}
-
-#[derive(Clone, Copy)]
-pub(crate) enum Code {
-    Code(u8),
-    Wrong(Fault),
-}
-
-pub(crate) fn read_source(text: &[u8]) -> SourceRead
+#[tactic(auto, unfolding(crate::specs::Source::read_source))]
+pub(crate) fn read_source(text: &[u8]) -> Result<Source, Fault>
     ensures { result ≡ read_source text.now }
 {
-    if text.len() == 0 {
-        return SourceRead::Wrong(Fault::MissingField);
+    if text.is_empty() {
+        return Err(Fault::MissingField);
     }
     let name = field_of(text);
-    if is_byte(name, b'F') {
-        return SourceRead::Source(Source::Frame);
+    if name == b"F".as_slice() {
+        return Ok(Source::Frame);
     }
-    if is_byte(name, b'P') {
-        return SourceRead::Source(Source::Payload);
+    if name == b"P".as_slice() {
+        return Ok(Source::Payload);
     }
-    if is_byte(name, b'S') {
-        return read_secure(behind_field(text));
+    if name == b"S".as_slice() {
+        let code = read_code(next_field(behind_field(text)))?;
+        return Ok(Source::Secure(code));
     }
-    SourceRead::Wrong(Fault::UnknownCall)
-}
-
-fn read_secure(rest: &[u8]) -> SourceRead
-    ensures { result ≡ secure_source (read_command_code (next_field rest.now)) }
-{
-    let found = read_code(next_field(rest));
-    match found {
-        Code::Code(code) => SourceRead::Source(Source::Secure(code)),
-        Code::Wrong(fault) => SourceRead::Wrong(fault),
-    }
+    Err(Fault::UnknownCall)
 }
 
 // A command code in its two digits.
-pub(crate) fn read_code(field: &[u8]) -> Code
+#[tactic(auto, unfolding(crate::specs::Source::read_command_code))]
+pub(crate) fn read_code(field: &[u8]) -> Result<u8, Fault>
     ensures { result ≡ read_command_code field.now }
 {
-    if field.len() == 0 {
-        return Code::Wrong(Fault::MissingField);
-    }
-    if field.len() != 2 {
-        return Code::Wrong(Fault::CodeSize);
-    }
-    if all_digits(field) {
-        Code::Code(byte_of(field[0], field[1]))
-    } else {
-        Code::Wrong(Fault::NoDigit)
+    match field {
+        [] => Err(Fault::MissingField),
+        [high, low] if all_digits(field) => Ok(byte_of(*high, *low)),
+        [_, _] => Err(Fault::NoDigit),
+        _ => Err(Fault::CodeSize),
     }
 }
 
@@ -78,8 +53,7 @@ pub(crate) fn behind_source(text: &[u8], source: Source) -> &[u8]
     ensures { result.now ≡ behind_source source text.now }
 {
     match source {
-        Source::Frame => behind_field(text),
-        Source::Payload => behind_field(text),
+        Source::Frame | Source::Payload => behind_field(text),
         Source::Secure(_) => behind_next(behind_field(text)),
     }
 }

@@ -3,25 +3,21 @@ ghost use Rattle.std.specs.Prelude.{◌≡◌};
 ghost use Rattle.felica_calls.specs.Write.{write_of, behind_code};
 
 use crate::call::Call;
-use crate::field::{behind_field, behind_next, next_field};
-use crate::number::{Number, read_number};
-use crate::source::{Code, read_code};
+use crate::fault::Fault;
+use crate::field::{Fields, behind_field, behind_next};
+use crate::number::read_number;
+use crate::source::read_code;
 
 // The longest buffer that the writer is lent.
 pub const MAX_ROOM: usize = 16384;
 
-pub(crate) fn read_write(rest: &[u8]) -> Call
+pub(crate) fn read_write(rest: &[u8]) -> Result<Call, Fault>
     ensures { result ≡ write_of rest.now }
 {
-    let size = read_number(next_field(rest), MAX_ROOM);
-    let Number::Number(room) = size else {
-        return Call::Wrong(size.fault());
-    };
-    let found = read_code(next_field(behind_next(rest)));
-    match found {
-        Code::Code(code) => Call::Write(room, code),
-        Code::Wrong(fault) => Call::Wrong(fault),
-    }
+    let mut fields = Fields { rest };
+    let room = read_number(fields.take_next(), MAX_ROOM)?;
+    let code = read_code(fields.take_next())?;
+    Ok(Call::Write(room, code))
 }
 
 // What follows the command code.

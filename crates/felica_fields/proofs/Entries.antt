@@ -1,63 +1,64 @@
--- Reading one code at a place of the payload, and the text of a list by its first entry.
+-- The texts of a list by its first entry, and the texts of entries that a reader's steps give.
 -- Assumes nothing.
-use mathlib.Core.Path.{◌≡◌, refl}
-use mathlib.Core.List.{List, [], ◌∷◌, ◌++◌}
-use Prim.Native.Nat.{ℕ, zero, suc, ◌+◌, ◌-◌, ◌≤◌, ◌<◌}
-use native.Mathlib.Nat.{not-suc-le-zero}
-use native.Mathlib.Omega.{arith}
-use lib.ListN.{length, get_or, drop, drop_of_length-le}
+use Rattle.std.proofs.Common.{ℕ, zero, suc, ◌-◌, ◌<◌, ◌≤◌, ◌≡◌, refl, ap, List, [], ◌∷◌, ◌++◌, length, get_or, drop, Some, None, arith}
+use Rattle.std.proofs.Math.Nat.{not-suc-le-zero}
 use Rattle.felica_format.specs.Basic.{Step, taken, refuse, word_of}
-use Rattle.felica_text.specs.Text.{text, behind_commas, parted}
-use Rattle.felica_fields.specs.Entries.{read_code, entries_of}
-use Rattle.felica_put.proofs.Laws.{drop_next}
+use Rattle.felica_text.specs.Text.{behind_commas, parted}
+use Rattle.felica_fields.specs.Entries.{read_code, entries_of, if_taken, if_read, TextRead, taken_text, texts_of}
 
-module _ (s : List ℕ) (at : ℕ) where
-  pub code_none : length s ≤ at → read_code (drop at s) ≡ refuse 13
-  unfolding read_code
-  code_none h = rw (drop_of_length-le s h)
+pub code_cut : (l : List ℕ) → length l < 2 → read_code l ≡ refuse 13
+unfolding read_code
+code_cut [] h = refl
+code_cut (low ∷ []) h = refl
+code_cut (low ∷ high ∷ l) h = absurd (omega arith)
 
-  pub code_cut : at < length s → length s - at < 2 → read_code (drop at s) ≡ refuse 13
-  unfolding read_code
-  code_cut h k =
-      let last : length s ≤ at + 1 = omega arith in
-      rw (drop_next s at 0 h, drop_of_length-le s last)
+pub code_whole : (l : List ℕ) → 2 ≤ length l → read_code l ≡ taken (word_of (get_or l 0 0) (get_or l 1 0)) (drop 2 l)
+unfolding read_code
+code_whole [] h = absurd (omega arith)
+code_whole (low ∷ []) h = absurd (omega arith)
+code_whole (low ∷ high ∷ l) h = refl
 
-  pub code_whole : 2 ≤ length s - at → read_code (drop at s) ≡ taken (word_of (get_or s at 0) (get_or s (at + 1) 0)) (drop (at + 2) s)
-  unfolding read_code
-  code_whole h =
-      let h₀ : at < length s = omega arith in
-      let h₁ : at + 1 < length s = omega arith in
-      let e : at + 1 + 1 ≡ at + 2 = omega arith in
-      rw (drop_next s at 0 h₀, drop_next s (at + 1) 0 h₁, e)
+module _ (read : List ℕ → TextRead) (s : List ℕ) where
+  pub texts_next : (n : ℕ) {t rest : List ℕ} → 0 < n → read s ≡ Some (t, rest) → texts_of read n s ≡ t ∷ texts_of read (n - 1) rest
+  unfolding texts_of
+  texts_next zero h e = absurd (not-suc-le-zero h)
+  texts_next (suc n) h e = let m : suc n - 1 ≡ n = omega arith in rw (e, m)
 
-module _ {A : Type 0} (read : List ℕ → Step A) (entry : A → List ℕ) (s : List ℕ) where
-  pub more_next : (n : ℕ) {a : A} {rest : List ℕ} → 0 < n → read s ≡ taken a rest
-      → behind_commas entry (entries_of read n s) ≡ 44 ∷ (entry a ++ behind_commas entry (entries_of read (n - 1) rest))
-  unfolding behind_commas entries_of
-  more_next zero h e = absurd (not-suc-le-zero h)
-  more_next (suc n) h e = let m : suc n - 1 ≡ n = omega arith in rw (e, m)
+  pub texts_end : (n : ℕ) → read s ≡ None → texts_of read n s ≡ []
+  unfolding texts_of
+  texts_end zero e = refl
+  texts_end (suc n) e = rw e
 
-  pub more_end : (n : ℕ) {k : ℕ} → read s ≡ refuse k → behind_commas entry (entries_of read n s) ≡ []
-  unfolding behind_commas entries_of
-  more_end zero e = refl
-  more_end (suc n) e = rw e
+  pub texts_none : (n : ℕ) → n ≡ 0 → texts_of read n s ≡ []
+  unfolding texts_of
+  texts_none n e = rw e
 
-  pub more_none : (n : ℕ) → n ≤ 0 → behind_commas entry (entries_of read n s) ≡ []
-  unfolding behind_commas entries_of
-  more_none zero h = refl
-  more_none (suc n) h = absurd (not-suc-le-zero h)
+module _ {A : Type 0} (entry : A → List ℕ) (read : List ℕ → Step A) where
+  -- the entries of a list as texts
+  abbrev in_texts : ℕ → List ℕ → List (List ℕ)
+  in_texts = texts_of (λ s. taken_text entry (read s))
 
-  pub list_next : (n : ℕ) {a : A} {rest : List ℕ} → (n ≡ 0 → ⊥) → read s ≡ taken a rest
-      → parted entry (entries_of read n s) ≡ entry a ++ behind_commas entry (entries_of read (n - 1) rest)
-  unfolding parted entries_of
-  list_next zero h e = absurd (h refl)
-  list_next (suc n) h e = let m : suc n - 1 ≡ n = omega arith in rw (e, m)
+  abbrev first_text : ℕ → Step A → List (List ℕ)
+  first_text n step = if_read (taken_text entry step) (λ text rest. text ∷ in_texts n rest) []
 
-  pub list_end : (n : ℕ) {k : ℕ} → read s ≡ refuse k → parted entry (entries_of read n s) ≡ text "-"
-  unfolding parted entries_of
-  list_end zero e = refl
-  list_end (suc n) e = rw e
+  abbrev first_entry : ℕ → Step A → List A
+  first_entry n step = if_taken step (λ a rest. a ∷ entries_of read n rest) []
 
-  pub list_none : (n : ℕ) → n ≡ 0 → parted entry (entries_of read n s) ≡ text "-"
-  unfolding parted entries_of
-  list_none n e = rw e
+  same_behind : (n : ℕ) (s : List ℕ) → behind_commas (λ text. text) (in_texts n s) ≡ behind_commas entry (entries_of read n s)
+  unfolding texts_of entries_of
+  same_behind zero s = refl
+  same_behind (suc n) s = turn (read s) (same_behind n)
+    where
+      turn : (step : Step A) → ((rest : List ℕ) → behind_commas (λ text. text) (in_texts n rest) ≡ behind_commas entry (entries_of read n rest))
+          → behind_commas (λ text. text) (first_text n step) ≡ behind_commas entry (first_entry n step)
+      turn (taken a rest) same = ap (λ l. 44 ∷ (entry a ++ l)) (same rest)
+      turn (refuse k) same = refl
+
+  pub same_list : (n : ℕ) (s : List ℕ) → parted (λ text. text) (in_texts n s) ≡ parted entry (entries_of read n s)
+  unfolding texts_of entries_of parted
+  same_list zero s = refl
+  same_list (suc n) s = turn (read s)
+    where
+      turn : (step : Step A) → parted (λ text. text) (first_text n step) ≡ parted entry (first_entry n step)
+      turn (taken a rest) = ap (λ l. entry a ++ l) (same_behind n rest)
+      turn (refuse k) = refl

@@ -1,25 +1,24 @@
 // A refusal as text: `NO`, the number of its ground and the code, or `--` where it has none.
-ghost use Rattle.std.specs.Prelude.{◌≡◌};
-ghost use Rattle.felica_put.specs.Put.{buffer, put};
+ghost use Rattle.felica_put.specs.Output.{Puts};
 ghost use Rattle.felica_fields.specs.Refused.{refusal_text};
 
 use felica_command::command::Refusal;
-use felica_put::{put_byte, put_bytes};
+use felica_put::Output;
 use felica_text::put::{put_decimal, put_hex_byte};
 
-pub fn put_refusal(out: &mut [u8], at: usize, refusal: Refusal) -> usize
-    ensures { buffer out.new result ≡ put (buffer out.old at) (refusal_text refusal) }
+pub fn put_refusal(out: &mut Output<u8>, refusal: Refusal)
+    ensures { Puts out.old out.new (refusal_text refusal) }
 {
-    let next = put_bytes(out, at, b"NO ");
+    out.put_all(b"NO ");
     match refusal {
         Refusal::Number(number) => {
-            let behind = put_decimal(out, next, number as usize);
-            put_bytes(out, behind, b" --")
+            put_decimal(out, number as usize);
+            out.put_all(b" --");
         }
         Refusal::OfCommand(number, code) => {
-            let behind = put_decimal(out, next, number as usize);
-            let code_at = put_byte(out, behind, b' ');
-            put_hex_byte(out, code_at, code)
+            put_decimal(out, number as usize);
+            out.put(b' ');
+            put_hex_byte(out, code);
         }
     }
 }

@@ -1,15 +1,10 @@
 -- How much a frame can list: no accepted frame has more than 64 codes, 255 blocks or 255 long elements, and no line of a listing is longer than the room that a step asks for.
 -- Assumes nothing.
-use Prim.Native.Nat.{ℕ, suc, ◌≤◌}
-use native.Mathlib.Omega.{arith}
-use mathlib.Core.Logic.{◌⊎◌, inl, inr}
-use mathlib.Core.Path.{◌≡◌, refl, sym, ap, ◌∙◌, subst}
-use mathlib.Core.Bool.{Bool, true, false, cond, ◌||◌}
-use mathlib.Core.List.{List, [], ◌∷◌, map}
-use mathlib.Core.Option.{Option, none, some}
-use lib.Dec.{ltb, eqb}
-use lib.ListN.{length, get_or, length-append, length-map}
-use borrow.Author.Tests.{ltb-false}
+use Rattle.std.proofs.Common.{ℕ, suc, ◌≤◌, ◌≡◌, ◌⊎◌, inl, inr, refl, sym, ap, ◌∙◌, subst, Bool, true, false, cond, ◌||◌, List, [], ◌∷◌, map, length, get_or, length-append, arith}
+use Rattle.std.proofs.lemmas.List.{length-map}
+use Rattle.std.proofs.Math.Dec.{ltb, eqb}
+use Rattle.std.proofs.Math.Option.{Option, none, some}
+use Rattle.std.proofs.lemmas.Bool.{ltb-false}
 use Rattle.felica_format.specs.declared.classes.Class.{Class}
 use Rattle.felica_format.specs.declared.classes.Class.TheVariants.{Plain, Secure, Unknown}
 use Rattle.felica_format.specs.Basic.{Step, taken, refuse}
@@ -130,7 +125,6 @@ mark_length : (code : ℕ) → length (mark_text code) ≡ 1
 mark_length code = each_mark code (λ mark. length mark ≡ 1) (λ is. refl) (λ low. refl) refl refl
 
 marks_length : (codes : List ℕ) → length (marks_text codes) ≡ length codes
-unfolding marks_text
 marks_length [] = refl
 marks_length (code ∷ codes) = rw (length-append (mark_text code) (marks_text codes), mark_length code, marks_length codes) (omega arith)
 

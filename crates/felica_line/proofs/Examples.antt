@@ -1,6 +1,6 @@
 -- The table of specs/Examples.antt, computed.
 -- Assumes nothing.
-use mathlib.Core.Path.{refl}
+use Rattle.std.proofs.Common.{refl}
 use Rattle.felica_line.specs.Examples.{AllMarked, marks}
 
 pub all_marked : AllMarked marks

@@ -1,13 +1,8 @@
 -- The rules of the marks, from their definition.
 -- Assumes nothing.
-use Prim.Native.Nat.{ℕ, zero, suc, ◌%◌, ◌≤◌, ◌<◌}
-use native.Mathlib.Omega.{arith}
-use mathlib.Core.Path.{◌≡◌, refl}
-use mathlib.Core.Logic.{◌⊎◌, inl, inr, ⊎_elim, ◌≢◌}
-use mathlib.Core.Bool.{Bool, true, false, cond}
-use mathlib.Core.List.{List, [], ◌∷◌}
-use lib.Dec.{eqb}
-use borrow.Author.Tests.{eqb-true, ltb-true, eq-eqb, ne_eqb, lt-ltb, le-ltb}
+use Rattle.std.proofs.Common.{ℕ, zero, suc, ◌%◌, ◌≤◌, ◌<◌, ◌≡◌, ◌≢◌, ◌⊎◌, inl, inr, refl, Bool, true, false, cond, List, [], ◌∷◌, arith}
+use Rattle.std.proofs.Math.Dec.{eqb}
+use Rattle.std.proofs.lemmas.Bool.{eqb-true, ltb-true, eq-eqb, ne_eqb, lt-ltb, le-ltb}
 use Rattle.felica_text.specs.Text.{text}
 use Rattle.felica_line.specs.Line.{key_text, is_system, is_area, mark_text}
 use Rattle.felica_line.specs.Rules.{SystemExactly, AreaExactly, OthersKept}
@@ -56,7 +51,7 @@ area_exactly code = (
       (λ low h. zero_or_one (code % 64) low)
       (λ h. absurd (omega (arith, same_byte h)))
       (λ h. absurd (omega (arith, same_byte h))),
-  ⊎_elim (λ (e : code % 64 ≡ 0). area_marked code (omega arith)) (λ (e : code % 64 ≡ 1). area_marked code (omega arith)),
+  λ low. area_marked code (omega (arith, low)),
 )
 
 pub others_kept : OthersKept

@@ -1,6 +1,7 @@
 -- The line of one record of a log: its ordinal, and what its frame gives. "Fields stand one space apart; hexadecimal letters are capitals."
 -- Assumes nothing.
-use Rattle.std.specs.Prelude.{ℕ, ◌%◌, Bool, true, false, cond, List, [], ◌∷◌, ◌++◌, ltb, eqb, length}
+use Rattle.std.specs.Prelude.{ℕ, ◌%◌, Bool, true, false, cond, List, [], ◌∷◌, ◌++◌, ltb, eqb, length, Option, Some, None}
+use Rattle.std.specs.List.{flat_map}
 use Rattle.felica_format.specs.Command.{Command}
 use Rattle.felica_format.specs.Read.{Answer as Reading, gives, refused}
 use Rattle.felica_text.specs.Text.{text, byte_text, decimal_text}
@@ -22,9 +23,8 @@ is_area code = ltb (code % 64) 2
 abbrev pub mark_text : ℕ → List ℕ
 mark_text code = cond (is_system code) (text "s") (cond (is_area code) (text "a") (key_text code))
 
-unfoldable pub marks_text : List ℕ → List ℕ
-marks_text [] = []
-marks_text (code ∷ codes) = mark_text code ++ marks_text codes
+abbrev pub marks_text : List ℕ → List ℕ
+marks_text = flat_map mark_text
 
 -- "one mark per listed code, run together in field order, or `-` for none"
 unfoldable pub mark_field : List ℕ → List ℕ
@@ -57,3 +57,8 @@ is_accepted (refused n code) = false
 abbrev pub blocks_in : Reading → ℕ
 blocks_in (gives c long) = length c.numbers
 blocks_in (refused n code) = 0
+
+-- the same together: the blocks of an accepted frame
+abbrev pub accepted_blocks : Reading → Option ℕ
+accepted_blocks (gives c long) = Some (length c.numbers)
+accepted_blocks (refused n code) = None

@@ -2,66 +2,52 @@
 ghost use Rattle.std.specs.Prelude.{◌≡◌, [], ◌∷◌, ◌++◌};
 ghost use Rattle.felica_command.specs.Meaning.{codes_at};
 ghost use Rattle.felica_command.specs.Places.{CodesInside};
-ghost use Rattle.felica_put.specs.Put.{buffer, put};
+ghost use Rattle.felica_put.specs.Output.{Puts};
 ghost use Rattle.felica_line.specs.Line.{mark_text, marks_text, mark_field, accepted_text};
 
 use felica_command::command::Part;
+use felica_command::lists::Lists;
 use felica_cursor::cursor::word_of;
-use felica_put::{put_byte, put_bytes};
+use felica_put::Output;
 use felica_text::put::{put_decimal, put_hex_byte};
 
 // The codes are those of two lists of the payload, in field order.
-pub(crate) fn put_accepted(
-    out: &mut [u8],
-    at: usize,
-    code: u8,
-    payload: &[u8],
-    first: Part,
-    second: Part,
-    blocks: usize,
-    long: u8,
-) -> usize
-    requires { CodesInside payload.now first × CodesInside payload.now second }
-    ensures { buffer out.new result ≡ put (buffer out.old at) (accepted_text code (codes_at payload.now first ++ codes_at payload.now second) blocks long) }
+pub(crate) fn put_accepted(out: &mut Output<u8>, code: u8, payload: &[u8], lists: Lists, long: u8)
+    requires { CodesInside payload.now lists.first_codes × CodesInside payload.now lists.second_codes }
+    ensures { Puts out.old out.new (accepted_text code (codes_at payload.now lists.first_codes ++ codes_at payload.now lists.second_codes) lists.block_list.count long) }
 {
-    let code_at = put_bytes(out, at, b"OK ");
-    let code_end = put_hex_byte(out, code_at, code);
-    let codes_at = put_byte(out, code_end, b' ');
-    let codes_end = put_decimal(out, codes_at, first.count + second.count);
-    let blocks_at = put_byte(out, codes_end, b' ');
-    let blocks_end = put_decimal(out, blocks_at, blocks);
-    let long_at = put_byte(out, blocks_end, b' ');
-    let long_end = put_decimal(out, long_at, long as usize);
-    let marks_at = put_byte(out, long_end, b' ');
-    put_mark_field(out, marks_at, payload, first, second)
+    out.put_all(b"OK ");
+    put_hex_byte(out, code);
+    out.put(b' ');
+    put_decimal(out, lists.first_codes.count + lists.second_codes.count);
+    out.put(b' ');
+    put_decimal(out, lists.block_list.count);
+    out.put(b' ');
+    put_decimal(out, long as usize);
+    out.put(b' ');
+    put_mark_field(out, payload, lists.first_codes, lists.second_codes);
 }
 
-fn put_mark_field(out: &mut [u8], at: usize, payload: &[u8], first: Part, second: Part) -> usize
+fn put_mark_field(out: &mut Output<u8>, payload: &[u8], first: Part, second: Part)
     requires { CodesInside payload.now first × CodesInside payload.now second }
-    ensures { buffer out.new result ≡ put (buffer out.old at) (mark_field (codes_at payload.now first ++ codes_at payload.now second)) }
+    ensures { Puts out.old out.new (mark_field (codes_at payload.now first ++ codes_at payload.now second)) }
 {
     if first.count + second.count == 0 {
-        return put_byte(out, at, b'-');
+        out.put(b'-');
+        return;
     }
-    let next = put_marks(out, at, payload, first);
-    put_marks(out, next, payload, second)
+    put_marks(out, payload, first);
+    put_marks(out, payload, second);
 }
 
-fn put_marks(out: &mut [u8], at: usize, payload: &[u8], list: Part) -> usize
+fn put_marks(out: &mut Output<u8>, payload: &[u8], list: Part)
     requires { CodesInside payload.now list }
-    ensures { buffer out.new result ≡ put (buffer out.old at) (marks_text (codes_at payload.now list)) }
+    ensures { Puts out.old out.new (marks_text (codes_at payload.now list)) }
 {
-    let count = list.count;
-    let mut from = list.start;
-    let mut next = at;
-    let mut i: usize = 0;
-    while i < count {
-        let code = word_of(payload[from], payload[from + 1]);
-        next = put_byte(out, next, mark_of(code));
-        from += 2;
-        i += 1;
+    for i in 0..list.count {
+        let at = list.start + 2 * i;
+        out.put(mark_of(word_of(payload[at], payload[at + 1])));
     }
-    next
 }
 
 // The system, an area, a service that needs no key, or one that needs one.

@@ -13,6 +13,7 @@ use crate::values::{start_of, value_at};
 use felica_calls::bytes::decode;
 use felica_command::fixed::Fixed;
 use felica_cursor::cursor::word_of;
+use felica_put::Output;
 
 // Where a field is named that the command lacks, a number that it lacks is 1, so that the writer refuses it.
 pub fn fixed_named(code: u8, text: &[u8], starts: &[usize]) -> Fixed
@@ -69,5 +70,5 @@ fn fill_challenge(code: u8, text: &[u8], starts: &[usize], challenge: &mut [u8])
 fn fill(text: &[u8], starts: &[usize], name: usize, bytes: &mut [u8])
     ensures { bytes.new ≡ bytes_over bytes.old (value_named text.now starts.now name) }
 {
-    decode(value_at(text, start_of(starts, name)), bytes);
+    decode(value_at(text, start_of(starts, name)), &mut Output::new(bytes));
 }

@@ -3,7 +3,6 @@ ghost use Rattle.std.specs.Prelude.{◌≡◌};
 ghost use Rattle.felica_named.specs.Form.{longest, well_formed, challenge_form, has_digits, is_bytes, is_list, entries, entry_well};
 
 use felica_calls::bytes::all_digits;
-use felica_calls::field::is_byte;
 use felica_text::hex::{Digit, digit_value};
 
 // 1024 codes or block numbers with the commas between them; 16384 bytes.
@@ -58,7 +57,7 @@ fn is_challenge(value: &[u8]) -> bool
 fn is_bytes(value: &[u8]) -> bool
     ensures { result ≡ is_bytes value.now }
 {
-    if is_byte(value, b'-') {
+    if value == b"-".as_slice() {
         return true;
     }
     if value.len() == 0 {
@@ -74,7 +73,7 @@ fn is_bytes(value: &[u8]) -> bool
 fn is_list(value: &[u8], least: usize, most: usize) -> bool
     ensures { result ≡ is_list least most value.now }
 {
-    if is_byte(value, b'-') {
+    if value == b"-".as_slice() {
         return true;
     }
     are_entries(value, least, most)

@@ -6,8 +6,7 @@ ghost use Rattle.felica_named.specs.Values.{value_named, words_in, small_in, num
 
 use crate::values::{start_of, value_at};
 use felica_calls::bytes::{decode, value_of};
-use felica_calls::field::is_byte;
-use felica_put::put_byte;
+use felica_put::{Output, put_byte};
 
 pub fn words_named(text: &[u8], starts: &[usize], name: usize, words: &mut [u16]) -> usize
     ensures { buffer words.new result ≡ put (buffer words.old 0) (words_in (value_named text.now starts.now name)) }
@@ -24,7 +23,9 @@ pub fn small_named(text: &[u8], starts: &[usize], name: usize, numbers: &mut [u8
 pub fn bytes_named(text: &[u8], starts: &[usize], name: usize, bytes: &mut [u8]) -> usize
     ensures { buffer bytes.new result ≡ put (buffer bytes.old 0) (bytes_of (value_named text.now starts.now name)) }
 {
-    decode(value_at(text, start_of(starts, name)), bytes)
+    let mut output = Output::new(bytes);
+    decode(value_at(text, start_of(starts, name)), &mut output);
+    output.len
 }
 
 fn put_words(value: &[u8], words: &mut [u16]) -> usize
@@ -33,7 +34,7 @@ fn put_words(value: &[u8], words: &mut [u16]) -> usize
     if value.len() == 0 {
         return 0;
     }
-    if is_byte(value, b'-') {
+    if value == b"-".as_slice() {
         return 0;
     }
     put_each_word(value, words)
@@ -45,7 +46,7 @@ fn put_small(value: &[u8], numbers: &mut [u8]) -> usize
     if value.len() == 0 {
         return 0;
     }
-    if is_byte(value, b'-') {
+    if value == b"-".as_slice() {
         return 0;
     }
     put_each_small(value, numbers)

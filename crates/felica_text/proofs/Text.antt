@@ -1,37 +1,20 @@
 -- Text of bytes, and the decimal digits of a number by its last digit.
 -- Assumes nothing.
-use mathlib.Core.Path.{◌≡◌, refl, sym, ap, ◌∙◌}
-use mathlib.Core.Bool.{Bool, true, false}
-use mathlib.Core.List.{List, [], ◌∷◌, ◌++◌}
-use Prim.Native.Nat.{ℕ, zero, suc, ◌+◌, ◌*◌, ◌/◌, ◌%◌, ◌≤◌, ◌<◌}
-use native.Mathlib.Nat.{not-suc-le-zero}
-use native.Mathlib.Omega.{arith}
-use lib.Dec.{ltb}
-use lib.ListN.{length, get_or, drop, length-append}
-use borrow.Author.Tests.{lt-ltb, le-ltb, ltb-true, ltb-false}
-use Rattle.felica_text.specs.Text.{text, digits_text, bytes_text, behind_commas, parted, decimal_digits, decimal_text}
+use Rattle.std.proofs.Common.{ℕ, zero, suc, ◌+◌, ◌*◌, ◌/◌, ◌%◌, ◌≤◌, ◌<◌, ◌≡◌, refl, sym, ap, ◌∙◌, Bool, true, false, List, [], ◌∷◌, ◌++◌, length, arith, length-append}
+use Rattle.std.proofs.Math.Dec.{ltb}
+use Rattle.std.proofs.Math.Nat.{not-suc-le-zero}
+use Rattle.std.proofs.lemmas.Bool.{lt-ltb, le-ltb, ltb-true, ltb-false}
+use Rattle.felica_text.specs.Text.{text, digits_text, bytes_text, decimal_digits, decimal_text}
 
-pub bytes_none : (s : List ℕ) → length s ≡ 0 → bytes_text s ≡ text "-"
+pub bytes_none : (s : List ℕ) → length s ≡ 0 → text "-" ≡ bytes_text s
 unfolding bytes_text
 bytes_none [] h = refl
 bytes_none (b ∷ s) h = absurd (omega arith)
 
-pub bytes_some : (s : List ℕ) → (length s ≡ 0 → ⊥) → bytes_text s ≡ digits_text s
+pub bytes_some : (s : List ℕ) → (length s ≡ 0 → ⊥) → digits_text s ≡ bytes_text s
 unfolding bytes_text
 bytes_some [] h = absurd (h refl)
 bytes_some (b ∷ s) h = refl
-
--- a list by its first entry
-pub parted_none : {A : Type 0} (entry : A → List ℕ) (s : List A) → length s ≡ 0 → parted entry s ≡ text "-"
-unfolding parted
-parted_none entry [] h = refl
-parted_none entry (a ∷ s) h = absurd (omega arith)
-
-pub parted_some : {A : Type 0} (entry : A → List ℕ) (s : List A) (d : A) → (length s ≡ 0 → ⊥)
-    → parted entry s ≡ entry (get_or s 0 d) ++ behind_commas entry (drop 1 s)
-unfolding parted
-parted_some entry [] d h = absurd (h refl)
-parted_some entry (a ∷ s) d h = refl
 
 small : (k n : ℕ) → n < 10 → decimal_digits k n ≡ (48 + n) ∷ []
 unfolding decimal_digits
@@ -64,6 +47,10 @@ unfolding decimal_text
 decimal_more zero h = absurd (not-suc-le-zero h)
 decimal_more (suc n) h =
     more n (suc n) h ∙ ap (λ (r : List ℕ). r ++ ((48 + suc n % 10) ∷ [])) (same n (suc n / 10) (suc n / 10) (omega arith) (omega arith))
+
+-- the last digit of a number, and all of one below ten
+pub decimal_last : (n : ℕ) → n < 10 → (48 + n % 10) ∷ [] ≡ decimal_text n
+decimal_last n h = let e : n % 10 ≡ n = omega arith in rw e (sym (decimal_small n h))
 
 -- a number below a power of ten has no more digits than that has noughts
 abbrev pub tens : ℕ → ℕ

@@ -1,10 +1,9 @@
 -- Text as the bytes of its characters, and numbers as text.
 -- Assumes nothing.
-use Rattle.std.specs.Prelude.{ℕ, zero, suc, ◌+◌, ◌-◌, ◌/◌, ◌%◌, cond, List, [], ◌∷◌, ◌++◌, ltb, leb, eqb}
+use Rattle.std.specs.Prelude.{ℕ, zero, suc, ◌+◌, ◌-◌, ◌/◌, ◌%◌, cond, List, [], ◌∷◌, ◌++◌, ltb, leb, eqb, Option, Some, None}
+use Rattle.std.specs.List.{flat_map}
 use Prim.Native.Char.{code}
 use Prim.Native.String.{String, [] as no_text, ◌∷◌ as ◌then◌}
-use Rattle.felica_text.specs.declared.hex.Digit.{Digit}
-use Rattle.felica_text.specs.declared.hex.Digit.TheVariants.{Value, NoDigit}
 
 -- the codes of a text's characters
 abbrev pub text : String → List ℕ
@@ -15,8 +14,8 @@ text (c then s) = code c ∷ text s
 abbrev pub digit_text : ℕ → ℕ
 digit_text n = cond (ltb n 10) (48 + n) (55 + n)
 
-abbrev pub digit_of : ℕ → Digit
-digit_of d = cond (ltb d 48) NoDigit (cond (leb d 57) (Value (d - 48)) (cond (ltb d 65) NoDigit (cond (leb d 70) (Value (d - 55)) NoDigit)))
+abbrev pub digit_of : ℕ → Option ℕ
+digit_of d = cond (ltb d 48) None (cond (leb d 57) (Some (d - 48)) (cond (ltb d 65) None (cond (leb d 70) (Some (d - 55)) None)))
 
 -- a byte in two digits, a two-byte number in four
 abbrev pub byte_text : ℕ → List ℕ
@@ -26,9 +25,8 @@ abbrev pub word_text : ℕ → List ℕ
 word_text w = byte_text (w / 256) ++ byte_text (w % 256)
 
 -- bytes in two digits each
-unfoldable pub digits_text : List ℕ → List ℕ
-digits_text [] = []
-digits_text (b ∷ bs) = byte_text b ++ digits_text bs
+abbrev pub digits_text : List ℕ → List ℕ
+digits_text = flat_map byte_text
 
 -- `-` is no bytes
 unfoldable pub bytes_text : List ℕ → List ℕ
@@ -41,9 +39,8 @@ nibble_text n = digit_text (n % 16) ∷ []
 
 module _ {A : Type 0} (entry : A → List ℕ) where
   -- entries, each behind a comma, whose code is 44
-  unfoldable pub behind_commas : List A → List ℕ
-  behind_commas [] = []
-  behind_commas (a ∷ rest) = 44 ∷ (entry a ++ behind_commas rest)
+  abbrev pub behind_commas : List A → List ℕ
+  behind_commas = flat_map (λ a. 44 ∷ entry a)
 
   -- a list: entries parted by commas, and `-` for none
   unfoldable pub parted : List A → List ℕ

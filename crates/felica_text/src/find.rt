@@ -5,12 +5,5 @@ ghost use Rattle.felica_text.specs.Text.{before};
 pub fn find(text: &[u8], byte: u8) -> usize
     ensures { result ≡ length (before byte text.now) }
 {
-    let mut i = 0;
-    while i < text.len() {
-        if text[i] == byte {
-            return i;
-        }
-        i += 1;
-    }
-    i
+    text.iter().position(|b| *b == byte).unwrap_or(text.len())
 }

@@ -2,13 +2,6 @@
 ghost use Rattle.std.specs.Prelude.{◌≡◌, ◌%◌};
 ghost use Rattle.felica_text.specs.Text.{digit_text, digit_of};
 
-// What a byte is as a digit.
-#[derive(Clone, Copy)]
-pub enum Digit {
-    Value(u8),
-    NoDigit,
-}
-
 // The digit of the low four bits.
 pub fn hex_digit(value: u8) -> u8
     ensures { result ≡ digit_text (value % 16) }
@@ -21,12 +14,13 @@ pub fn hex_digit(value: u8) -> u8
     }
 }
 
-pub fn digit_value(digit: u8) -> Digit
+// The number of a digit, if the byte is one.
+pub fn digit_value(digit: u8) -> Option<u8>
     ensures { result ≡ digit_of digit }
 {
     match digit {
-        b'0'..=b'9' => Digit::Value(digit - b'0'),
-        b'A'..=b'F' => Digit::Value(digit - b'A' + 10),
-        _ => Digit::NoDigit,
+        b'0'..=b'9' => Some(digit - b'0'),
+        b'A'..=b'F' => Some(digit - b'A' + 10),
+        _ => None,
     }
 }

@@ -1,91 +1,84 @@
-// Numbers and lists put into a lent buffer as text, as felica_put puts bytes.
-ghost use Rattle.std.specs.Prelude.{◌≡◌};
+// Numbers and lists put into a lent buffer as text.
+ghost use Rattle.std.specs.Prelude.{◌≡◌, List, ℕ};
 ghost use Rattle.felica_text.specs.Text.{byte_text, word_text, nibble_text, digits_text, bytes_text, parted, decimal_text};
-ghost use Rattle.felica_put.specs.Put.{buffer, put};
+ghost use Rattle.felica_put.specs.Output.{Puts};
 
 use crate::hex::hex_digit;
-use felica_put::put_byte;
+use felica_put::Output;
 
 // A byte in two digits.
-pub fn put_hex_byte(out: &mut [u8], at: usize, byte: u8) -> usize
-    ensures { buffer out.new result ≡ put (buffer out.old at) (byte_text byte) }
+pub fn put_hex_byte(out: &mut Output<u8>, byte: u8)
+    ensures { Puts out.old out.new (byte_text byte) }
 {
-    let next = put_byte(out, at, hex_digit(byte / 16));
-    put_byte(out, next, hex_digit(byte))
+    out.put(hex_digit(byte / 16));
+    out.put(hex_digit(byte));
 }
 
 // A two-byte number in four digits.
-pub fn put_hex_word(out: &mut [u8], at: usize, word: u16) -> usize
-    ensures { buffer out.new result ≡ put (buffer out.old at) (word_text word) }
+pub fn put_hex_word(out: &mut Output<u8>, word: u16)
+    ensures { Puts out.old out.new (word_text word) }
 {
-    let next = put_hex_byte(out, at, (word / 256) as u8);
-    put_hex_byte(out, next, (word % 256) as u8)
+    put_hex_byte(out, (word / 256) as u8);
+    put_hex_byte(out, (word % 256) as u8);
 }
 
 // Bytes in two digits each, and `-` for none.
-pub fn put_hex(out: &mut [u8], at: usize, bytes: &[u8]) -> usize
-    ensures { buffer out.new result ≡ put (buffer out.old at) (bytes_text bytes.now) }
+pub fn put_hex(out: &mut Output<u8>, bytes: &[u8])
+    ensures { Puts out.old out.new (bytes_text bytes.now) }
 {
-    if bytes.len() == 0 {
-        put_byte(out, at, b'-')
-    } else {
-        put_hex_bytes(out, at, bytes)
+    if bytes.is_empty() {
+        out.put(b'-');
+        return;
+    }
+    for byte in bytes {
+        put_hex_byte(out, *byte);
     }
 }
 
-fn put_hex_bytes(out: &mut [u8], at: usize, bytes: &[u8]) -> usize
-    ensures { buffer out.new result ≡ put (buffer out.old at) (digits_text bytes.now) }
+// A number below 16 in one digit.
+fn put_nibble(out: &mut Output<u8>, nibble: u8)
+    ensures { Puts out.old out.new (nibble_text nibble) }
 {
-    let mut next = at;
-    let mut i = 0;
-    while i < bytes.len() {
-        next = put_hex_byte(out, next, bytes[i]);
-        i += 1;
-    }
-    next
+    out.put(hex_digit(nibble));
 }
 
 // Two-byte numbers in four digits each, parted by commas, and `-` for none.
-pub fn put_words(out: &mut [u8], at: usize, words: &[u16]) -> usize
-    ensures { buffer out.new result ≡ put (buffer out.old at) (parted word_text words.now) }
+pub fn put_words(out: &mut Output<u8>, words: &[u16])
+    ensures { Puts out.old out.new (parted word_text words.now) }
 {
-    if words.len() == 0 {
-        return put_byte(out, at, b'-');
-    }
-    let mut next = put_hex_word(out, at, words[0]);
-    let mut i: usize = 1;
-    while i < words.len() {
-        next = put_byte(out, next, b',');
-        next = put_hex_word(out, next, words[i]);
-        i += 1;
-    }
-    next
+    put_parted(out, words, put_hex_word);
 }
 
 // Numbers below 16 in one digit each, parted by commas, and `-` for none.
-pub fn put_nibbles(out: &mut [u8], at: usize, nibbles: &[u8]) -> usize
-    ensures { buffer out.new result ≡ put (buffer out.old at) (parted nibble_text nibbles.now) }
+pub fn put_nibbles(out: &mut Output<u8>, nibbles: &[u8])
+    ensures { Puts out.old out.new (parted nibble_text nibbles.now) }
 {
-    if nibbles.len() == 0 {
-        return put_byte(out, at, b'-');
-    }
-    let mut next = put_byte(out, at, hex_digit(nibbles[0]));
-    let mut i: usize = 1;
-    while i < nibbles.len() {
-        next = put_byte(out, next, b',');
-        next = put_byte(out, next, hex_digit(nibbles[i]));
-        i += 1;
-    }
-    next
+    put_parted(out, nibbles, put_nibble);
 }
 
-pub fn put_decimal(out: &mut [u8], at: usize, number: usize) -> usize
-    ensures { buffer out.new result ≡ put (buffer out.old at) (decimal_text number) }
+// Entries parted by commas, as `put_entry` puts each, and `-` for none.
+fn put_parted<T: Copy, F: Fn(&mut Output<u8>, T)>(out: &mut Output<u8>, entries: &[T], put_entry: F)
+    ghost entry: { T → List ℕ }
+    requires callable { F.IsAlwaysCallable put_entry }
+    requires puts { (a : _) (x : T) (b : _) → F.post put_entry a x tt b → Puts a.now b.now (entry x) }
+    ensures { Puts out.old out.new (parted entry entries.now) }
 {
-    if number < 10 {
-        put_byte(out, at, b'0' + number as u8)
-    } else {
-        let next = put_decimal(out, at, number / 10);
-        put_byte(out, next, b'0' + (number % 10) as u8)
+    let Some((first, rest)) = entries.split_first() else {
+        out.put(b'-');
+        return;
+    };
+    put_entry(out, *first);
+    for entry in rest {
+        out.put(b',');
+        put_entry(out, *entry);
     }
+}
+
+pub fn put_decimal(out: &mut Output<u8>, number: usize)
+    ensures { Puts out.old out.new (decimal_text number) }
+{
+    if 10 <= number {
+        put_decimal(out, number / 10);
+    }
+    out.put(b'0' + (number % 10) as u8);
 }

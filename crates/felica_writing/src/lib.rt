@@ -4,6 +4,7 @@
 ghost use Rattle.std.specs.Prelude.{◌≡◌, ◌≤◌};
 ghost use Rattle.felica_format.specs.Basic.{zeros};
 ghost use Rattle.felica_put.specs.Put.{buffer, put};
+ghost use Rattle.felica_calls.specs.Fault.{fault_text};
 ghost use Rattle.felica_calls.specs.Write.{max_room};
 ghost use Rattle.felica_named.specs.Handed.{command_over, command_named};
 ghost use Rattle.felica_write.specs.Writing.{writing};
@@ -17,6 +18,7 @@ use felica_named::fixed::fixed_named;
 use felica_named::lists::{bytes_named, small_named, words_named};
 use felica_named::names::{DATA, FIRST, MODES, NAMES, NUMBERS, PACKAGE, PLACES, SECOND};
 use felica_named::notes::{Noted, note_fields};
+use felica_put::Output;
 use felica_write::write;
 
 // The longest lists that a well formed value has: of words in four digits, of numbers in one, and bytes in two.
@@ -32,14 +34,22 @@ pub fn answer_write(size: usize, code: u8, text: &[u8], out: &mut [u8], at: usiz
 {
     // No call that was read has such a size; but this function asks nothing of its caller.
     if MAX_ROOM < size {
-        return put_fault(out, at, Fault::BufferTooLong);
+        return answer_fault(Fault::BufferTooLong, out, at);
     }
     let mut starts = [0usize; NAMES];
     let noted = note_fields(text, &mut starts);
     match noted {
         Noted::Whole => answer_named(size, code, text, &starts, out, at),
-        Noted::Wrong(fault) => put_fault(out, at, fault),
+        Noted::Wrong(fault) => answer_fault(fault, out, at),
     }
+}
+
+fn answer_fault(fault: Fault, out: &mut [u8], at: usize) -> usize
+    ensures { buffer out.new result ≡ put (buffer out.old at) (fault_text fault) }
+{
+    let mut output = Output { room: out, len: at };
+    put_fault(&mut output, fault);
+    output.len
 }
 
 fn answer_named(

@@ -1,6 +1,6 @@
 -- `put_result` meets its contract.
 -- Assumes nothing.
-use Rattle.felica_put.proofs.Laws.{put_same}
+use Rattle.felica_put.proofs.Lists.{puts_same}
 use Rattle.felica_line.proofs.Result.{codes_inside, command_says, refused_says}
 use Rattle.felica_line.proofs.put_result.Goals as goal
 
@@ -13,10 +13,10 @@ pub returns-in-Command : goal.returns-in-Command
 returns-in-Command c =
     let a = c.args in
     let says = command_says a.payload.now a.parsed c.in-Command.is c.lists-lists.ensures c.requires c.command_code.ensures in
-    (put_same _ _ _ c.put_accepted.ensures says.0, says.1, says.2)
+    record { text = puts_same c.put_accepted.ensures says.text_is; blocks = says.blocks_is }
 
 pub returns-in-Refused : goal.returns-in-Refused
 returns-in-Refused c =
     let a = c.args in
     let says = refused_says a.payload.now a.parsed c.in-Refused.is in
-    (put_same _ _ _ c.put_refusal.ensures says.0, says.1, says.2)
+    record { text = puts_same c.put_refusal.ensures says.text_is; blocks = says.blocks_is }

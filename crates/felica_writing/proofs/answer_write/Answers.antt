@@ -10,7 +10,7 @@ use Rattle.felica_writing.proofs.answer_write.Goals as goal
 
 pub returns-then-size-gt-MAX_ROOM : goal.returns-then-size-gt-MAX_ROOM
 unfolding write_answer
-returns-then-size-gt-MAX_ROOM c = rw (lt-ltb _ _ c.if-size-gt-MAX_ROOM.true) c.put_fault.ensures
+returns-then-size-gt-MAX_ROOM c = rw (lt-ltb _ _ c.if-size-gt-MAX_ROOM.true) c.answer_fault.ensures
 
 pub answer_named-requires : goal.answer_named-requires
 answer_named-requires c = c.if-size-gt-MAX_ROOM.false
@@ -23,4 +23,4 @@ returns-in-Whole c = let a = c.args in
 pub returns-in-Wrong : goal.returns-in-Wrong
 unfolding write_answer names
 returns-in-Wrong c = let a = c.args in
-    rw (le-ltb _ _ c.if-size-gt-MAX_ROOM.false) (c.put_fault-in-Wrong.ensures ∙ ap (put (buffer a.out.now a.at)) (wrong_line a.size a.code a.text.now c.note_fields-noted.ensures c.in-Wrong.is))
+    rw (le-ltb _ _ c.if-size-gt-MAX_ROOM.false) (c.answer_fault-in-Wrong.ensures ∙ ap (put (buffer a.out.now a.at)) (wrong_line a.size a.code a.text.now c.note_fields-noted.ensures c.in-Wrong.is))

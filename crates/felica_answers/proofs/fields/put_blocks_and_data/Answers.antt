@@ -1,7 +1,7 @@
 -- `felica_answers::fields::put_blocks_and_data` meets its contract: field after field.
 -- Assumes nothing.
-use Rattle.felica_put.proofs.Laws.{put_then}
+use Rattle.felica_put.proofs.Laws.{puts_then}
 use Rattle.felica_answers.proofs.fields.put_blocks_and_data.Goals as goal
 
 pub returns : goal.returns
-returns c = put_then _ _ _ c.put_block_list-next.ensures c.put_part_field.ensures
+returns c = puts_then c.put_block_list.ensures c.put_part_field.ensures

@@ -1,14 +1,22 @@
--- `felica_answers::lists::put_listed` meets its contract.
+-- `felica_answers::lists::put_listed` meets its contract: piece after piece.
 -- Assumes nothing.
-use mathlib.Core.Path.{ap, ◌∙◌}
-use Rattle.felica_put.specs.Put.{put}
+use Rattle.felica_put.proofs.Laws.{puts_then}
+use Rattle.felica_put.proofs.Lists.{puts_same}
+use Rattle.felica_answers.specs.Lists.{lists_text}
 use Rattle.felica_answers.proofs.Listed.{command_line, refused_line}
 use Rattle.felica_answers.proofs.lists.put_listed.Goals as goal
 
 pub returns-in-Command : goal.returns-in-Command
+unfolding lists_text
 returns-in-Command c =
-    c.put_lists.ensures
-    ∙ ap (put _) (command_line _ _ _ _ _ _ c.in-Command.is c.lists-lists.ensures c.command_code.ensures c.front_words.ensures c.front_words-in-Command.ensures c.front_words-in-Command-2.ensures c.front_bytes.ensures c.front_bytes-in-Command.ensures)
+    puts_same
+    (puts_then c.put_all.ensures
+    (puts_then c.put_hex_byte.ensures
+    (puts_then c.put_words_field.ensures
+    (puts_then c.put_words_field-in-Command.ensures
+    (puts_then c.put_words_field-in-Command-2.ensures (puts_then c.put_nibbles_field.ensures c.put_nibbles_field-in-Command.ensures))))))
+    (command_line _ _ _ _ _ _ c.in-Command.is c.lists-lists.ensures c.command_code.ensures c.front.ensures c.front-in-Command.ensures c.front-in-Command-2.ensures
+    c.front-in-Command-3.ensures c.front-in-Command-4.ensures)
 
 pub returns-in-Refused : goal.returns-in-Refused
-returns-in-Refused c = c.put_refusal.ensures ∙ ap (put _) (refused_line _ _ _ _ _ _ c.in-Refused.is)
+returns-in-Refused c = puts_same c.put_refusal.ensures (refused_line _ _ _ _ _ _ c.in-Refused.is)

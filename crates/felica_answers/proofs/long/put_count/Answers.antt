@@ -1,7 +1,7 @@
 -- `felica_answers::long::put_count` meets its contract: piece after piece.
 -- Assumes nothing.
-use Rattle.felica_put.proofs.Laws.{put_then}
+use Rattle.felica_put.proofs.Laws.{puts_then}
 use Rattle.felica_answers.proofs.long.put_count.Goals as goal
 
 pub returns : goal.returns
-returns c = put_then _ _ _ c.put_bytes-next.ensures c.put_decimal.ensures
+returns c = puts_then c.put_all.ensures c.put_decimal.ensures

@@ -1,50 +1,17 @@
 -- `felica_calls::bytes::read_bytes` meets its contract.
 -- Assumes nothing.
-use borrow.Author.Tests.{lt-ltb, le-ltb, eq-eqb, ne_eqb}
-use native.Mathlib.Omega.{arith}
-use Prim.Native.Nat.{◌%◌}
-use mathlib.Core.Path.{◌≡◌, sym, ap, ◌∙◌}
-use lib.ListN.{length}
-use Rattle.felica_calls.specs.Bytes.{decoded, read_bytes}
-use Rattle.felica_calls.proofs.Reading.{decoded_front}
+use Rattle.std.proofs.Common.{◌≡◌, false, ap, sym, ◌∙◌, length, rules}
+use Rattle.felica_put.specs.Put.{put}
+use Rattle.felica_calls.specs.Field.{is_byte}
+use Rattle.felica_calls.specs.Bytes.{bytes_of}
+use Rattle.felica_calls.proofs.Reading.{bytes_read}
 use Rattle.felica_calls.proofs.bytes.read_bytes.Goals as goal
 
-pub returns-then-field-eq0 : goal.returns-then-field-eq0
-unfolding read_bytes
-returns-then-field-eq0 c = rw (eq-eqb _ _ c.if-field-eq0.true)
-
-pub returns-then-is_byte : goal.returns-then-is_byte
-unfolding read_bytes
-returns-then-is_byte c = rw (ne_eqb _ _ c.if-field-eq0.false, sym c.is_byte.ensures ∙ c.if-is_byte.true)
-
-pub returns-then-not-all_digits : goal.returns-then-not-all_digits
-unfolding read_bytes
-returns-then-not-all_digits c = rw (ne_eqb _ _ c.if-field-eq0.false, sym c.is_byte.ensures ∙ c.if-is_byte.false, sym c.all_digits.ensures ∙ c.if-not-all_digits.true)
-
-pub returns-then-field-eq1 : goal.returns-then-field-eq1
-unfolding read_bytes
-returns-then-field-eq1 c = let odd : length c.args.field.now % 2 ≡ 1 = omega arith in
-    rw (ne_eqb _ _ c.if-field-eq0.false, sym c.is_byte.ensures ∙ c.if-is_byte.false, sym c.all_digits.ensures ∙ c.if-not-all_digits.false, eq-eqb _ _ odd)
-
-pub returns-then-bytes-count : goal.returns-then-bytes-count
-unfolding read_bytes
-returns-then-bytes-count c = let even : (length c.args.field.now % 2 ≡ 1 → ⊥) = c.if-field-eq1.false in
-    rw (
-      ne_eqb _ _ c.if-field-eq0.false,
-      sym c.is_byte.ensures ∙ c.if-is_byte.false,
-      sym c.all_digits.ensures ∙ c.if-not-all_digits.false,
-      ne_eqb _ _ even,
-      lt-ltb _ _ c.if-bytes-count.true,
-    )
-
 pub returns : goal.returns
-unfolding read_bytes
-returns c = let even : (length c.args.field.now % 2 ≡ 1 → ⊥) = c.if-field-eq1.false in
-    rw (
-      ne_eqb _ _ c.if-field-eq0.false,
-      sym c.is_byte.ensures ∙ c.if-is_byte.false,
-      sym c.all_digits.ensures ∙ c.if-not-all_digits.false,
-      ne_eqb _ _ even,
-      le-ltb _ _ c.if-bytes-count.false,
-    )
-    (ap (decoded _) (decoded_front _ _ c.if-bytes-count.false c.decode.ensures))
+returns c =
+    let s = c.args.field.now in
+    let some : (length s ≡ 0 → ⊥) = search rules in
+    let other : is_byte 45 s ≡ false = search rules in
+    let front = bytes_read s c.args.bytes.now some other (sym c.all_digits.ensures ∙ c.if-not-all_digits.false) c.if-field-eq1.false c.if-bytes-count.false
+    (c.decode.ensures.held ∙ ap (λ b. put b (bytes_of s)) c.new.ensures.empty) in
+    search (rules, front)

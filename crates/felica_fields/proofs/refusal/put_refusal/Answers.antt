@@ -1,10 +1,12 @@
 -- `felica_fields::refusal::put_refusal` meets its contract.
 -- Assumes nothing.
-use Rattle.felica_put.proofs.Laws.{put_then}
+use Rattle.felica_put.proofs.Laws.{puts_then}
 use Rattle.felica_fields.proofs.refusal.put_refusal.Goals as goal
 
 pub returns-in-Number : goal.returns-in-Number
-returns-in-Number c = rw c.in-Number.is (put_then _ _ _ c.put_bytes-next.ensures (put_then _ _ _ c.put_decimal-behind.ensures c.put_bytes.ensures))
+returns-in-Number c = rw c.in-Number.is (puts_then c.put_all.ensures (puts_then c.put_decimal.ensures c.put_all-in-Number.ensures))
 
 pub returns-in-OfCommand : goal.returns-in-OfCommand
-returns-in-OfCommand c = rw c.in-OfCommand.is (put_then _ _ _ c.put_bytes-next.ensures (put_then _ _ _ c.put_decimal-behind-in-OfCommand.ensures (put_then _ _ _ c.put_byte-code_at.ensures c.put_hex_byte.ensures)))
+returns-in-OfCommand c =
+    rw c.in-OfCommand.is
+    (puts_then c.put_all.ensures (puts_then c.put_decimal-in-OfCommand.ensures (puts_then c.put.ensures c.put_hex_byte.ensures)))

@@ -1,17 +1,17 @@
 -- `felica_named::lists::put_small` meets its contract.
 -- Assumes nothing.
-use mathlib.Core.Path.{sym, ◌∙◌}
-use borrow.Author.Tests.{eq-eqb, ne_eqb}
+use Rattle.std.proofs.Common.{◌≡◌, true, false, eq-eqb, ne_eqb, rules}
 use Rattle.felica_put.specs.Put.{put}
+use Rattle.felica_calls.specs.Field.{is_byte}
 use Rattle.felica_named.proofs.lists.put_small.Goals as goal
 
 pub returns-then-value-eq0 : goal.returns-then-value-eq0
 unfolding put
 returns-then-value-eq0 c = rw (eq-eqb _ _ c.if-value-eq0.true)
 
-pub returns-then-is_byte : goal.returns-then-is_byte
+pub returns-then-eq : goal.returns-then-eq
 unfolding put
-returns-then-is_byte c = rw (ne_eqb _ _ c.if-value-eq0.false, sym c.is_byte.ensures ∙ c.if-is_byte.true)
+returns-then-eq c = let none : is_byte 45 c.args.value.now ≡ true = search rules in rw (ne_eqb _ _ c.if-value-eq0.false, none)
 
 pub returns : goal.returns
-returns c = rw (ne_eqb _ _ c.if-value-eq0.false, sym c.is_byte.ensures ∙ c.if-is_byte.false) c.put_each_small.ensures
+returns c = let some : is_byte 45 c.args.value.now ≡ false = search rules in rw (ne_eqb _ _ c.if-value-eq0.false, some) c.put_each_small.ensures

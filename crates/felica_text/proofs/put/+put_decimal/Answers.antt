@@ -1,14 +1,15 @@
 -- `felica_text::put::put_decimal` meets its contract: the digits in front of the last one, and then that one.
 -- Assumes nothing.
-use mathlib.Core.Path.{sym, ap, ◌∙◌}
-use Rattle.felica_put.specs.Put.{put}
-use Rattle.felica_put.proofs.Laws.{put_then}
-use Rattle.felica_text.proofs.Text.{decimal_small, decimal_more}
+use Rattle.std.proofs.Common.{sym}
+use Rattle.felica_put.proofs.Laws.{puts_then}
+use Rattle.felica_put.proofs.Lists.{puts_same}
+use Rattle.felica_text.proofs.Text.{decimal_last, decimal_more}
 use Rattle.felica_text.proofs.put.+put_decimal.Goals as goal
+use Rattle.felica_text.proofs.put.+put_decimal.Goals.{then-number-ge10, else-number-ge10}
 
-pub returns-then-number-lt10 : goal.returns-then-number-lt10
-returns-then-number-lt10 t c = c.put_byte.ensures ∙ ap (put _) (sym (decimal_small _ c.if-number-lt10.true))
-
-pub returns-else-number-lt10 : goal.returns-else-number-lt10
-returns-else-number-lt10 t c =
-    put_then _ _ _ c.put_decimal-next.ensures c.put_byte-else-number-lt10.ensures ∙ ap (put _) (sym (decimal_more _ c.if-number-lt10.false))
+pub returns : goal.returns
+returns t c =
+    elim c.if-number-ge10.branch [
+      | then-number-ge10 w ↦ puts_same (puts_then w.put_decimal.ensures (rw w.out-is at c.put.ensures)) (sym (decimal_more _ w.if-number-ge10.true))
+      | else-number-ge10 w ↦ puts_same (rw w.out-is at c.put.ensures) (decimal_last _ w.if-number-ge10.false)
+    ]

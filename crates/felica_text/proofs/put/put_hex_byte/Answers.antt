@@ -1,7 +1,7 @@
 -- `felica_text::put::put_hex_byte` meets its contract: two digits.
 -- Assumes nothing.
-use Rattle.felica_put.proofs.Laws.{put_then}
+use Rattle.felica_put.proofs.Laws.{puts_then}
 use Rattle.felica_text.proofs.put.put_hex_byte.Goals as goal
 
 pub returns : goal.returns
-returns c = put_then _ _ _ (rw c.hex_digit.ensures at c.put_byte-next.ensures) (rw c.hex_digit-2.ensures at c.put_byte.ensures)
+returns c = puts_then (rw c.hex_digit.ensures at c.put.ensures) (rw c.hex_digit-2.ensures at c.put-2.ensures)

@@ -1,14 +1,7 @@
--- `felica_text::put::put_nibbles` meets its contract: the first entry, then each behind its comma.
+-- `felica_text::put::put_nibbles` puts each entry as nibble_text says.
 -- Assumes nothing.
-use Prim.Native.Nat.{◌-◌, ◌≤◌}
-use mathlib.Core.Path.{◌≡◌}
-use lib.ListN.{length, drop}
-use Rattle.felica_text.specs.Text.{nibble_text, behind_commas}
-use Rattle.felica_put.specs.Put.{buffer, put}
+use Rattle.felica_text.specs.Text.{nibble_text}
 use Rattle.felica_text.proofs.put.put_nibbles.Given as goal
 
-abbrev pub invariant-loop-i : goal.invariant-loop-i
-invariant-loop-i l = (l.i ≤ length l.nibbles) × (length l.out ≡ length l.initial.out) × (put (buffer l.out l.next) (behind_commas nibble_text (drop l.i l.nibbles)) ≡ put (buffer l.initial.out l.initial.next) (behind_commas nibble_text (drop 1 l.nibbles)))
-
-abbrev pub decreases-loop-i : goal.decreases-loop-i
-decreases-loop-i l = length l.nibbles - l.i
+abbrev pub ghost-put_parted : goal.ghost-put_parted
+ghost-put_parted a = nibble_text
