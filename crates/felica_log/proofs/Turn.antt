@@ -2,7 +2,6 @@
 -- Assumes nothing.
 use Rattle.std.proofs.Common.{ℕ, zero, suc, ◌+◌, ◌-◌, ◌≤◌, ◌<◌, ◌^◌, add_comm, add-one, arith, ◌≡◌, refl, sym, ap, ◌∙◌, subst, Bool, true, false, cond, List, [], ◌∷◌, ltb, leb, length, get_or, take, drop, length-drop, length-take-le, drop-drop, ltb-true, ltb-false, leb-true, leb-false, lt-ltb, le-leb, Result, Ok, Err}
 use Rattle.std.proofs.lemmas.Bool.{lt-leb}
-use Rattle.std.specs.Bool.{then_some}
 use Rattle.std.specs.declared.option.Option.{Option}
 use Rattle.felica_format.specs.Read.{Answer as Reading, gives, refused, read_frame}
 use Rattle.felica_format.proofs.Tests.{and_both}
@@ -11,7 +10,7 @@ use Rattle.felica_put.proofs.Laws.{take_rest}
 use Rattle.felica_totals.specs.declared.Totals.{Totals}
 use Rattle.felica_totals.specs.Count.{counted, has_room, counted_within, counted_record}
 use Rattle.felica_totals.proofs.Room.{room, counted_with_room}
-use Rattle.felica_line.specs.Line.{record_line, is_accepted, blocks_in}
+use Rattle.felica_line.specs.Line.{record_line, is_accepted, blocks_in, accepted_blocks}
 use Rattle.felica_line.proofs.Bounds.{blocks_few}
 use Rattle.felica_log.specs.declared.Stop.{Stop}
 use Rattle.felica_log.specs.declared.Stop.TheVariants.{AtEnd, AtLimit, AtCut, NoRoom, TotalsFull}
@@ -111,7 +110,7 @@ counted_frame t frame h =
     (and_both (lt-ltb _ _ most.records) (and_both (lt-ltb _ _ most.accepted) (and_both (lt-ltb _ _ most.refused) (lt-ltb _ _ sum))))
 
 -- what a record counts for
-counted_reading : (t : Totals) (r : Reading) → counted_record t (then_some (is_accepted r) (blocks_in r)) ≡ counted_within t (is_accepted r) (blocks_in r)
+counted_reading : (t : Totals) (r : Reading) → counted_record t (accepted_blocks r) ≡ counted_within t (is_accepted r) (blocks_in r)
 counted_reading t (gives c long) = refl
 counted_reading t (refused n code) = refl
 
@@ -162,7 +161,7 @@ module _ (piece : List ℕ) (b : Buffer) (t : Totals) (used : ℕ) {all : Reache
 
   pub turn_listed : (rest frame : List ℕ) (space size : ℕ) {c : Buffer} {u : Totals} {record_is : Option ℕ} → rest ≡ drop used piece
       → frame ≡ take size (drop 1 rest) → space ≡ room_in b → ahead_of rest space t ≡ Ok size
-      → c ≡ put b (record_line (t.records + 1) (read_frame frame)) → record_is ≡ then_some (is_accepted (read_frame frame)) (blocks_in (read_frame frame))
+      → c ≡ put b (record_line (t.records + 1) (read_frame frame)) → record_is ≡ accepted_blocks (read_frame frame)
       → u ≡ counted_record t record_is → step_from (records_left t) b t used (drop used piece) ≡ all
       → step_from (records_left u) c u (used + (size + 1)) (drop (used + (size + 1)) piece) ≡ all
   turn_listed rest frame space size {c} {u} is cut room e line counts_as count inv =

@@ -56,5 +56,5 @@ fn put_number(out: &mut Output<u8>, number: usize)
     ensures { Puts out.old out.new (number_field number) }
 {
     out.put(b' ');
-    out.len = put_decimal(out.room, out.len, number);
+    put_decimal(out, number);
 }

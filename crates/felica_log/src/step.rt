@@ -30,9 +30,7 @@ pub fn list_records(piece: &[u8], out: &mut Output<u8>, totals: &mut Totals) -> 
             Err(stop) => return Progress { used, stop },
         };
         let end = usize::from(size) + 1;
-        let line = put_frame_line(out.room, out.len, totals.records + 1, &rest[1..end]);
-        out.len = line.next;
-        totals.count(line.accepted.then_some(line.blocks));
+        totals.count(put_frame_line(out, totals.records + 1, &rest[1..end]));
         used += end;
     }
 }

@@ -15,8 +15,8 @@ returns-in-Err-clause-reached c =
 pub overflow_add-totals : goal.overflow_add-totals
 overflow_add-totals c = omega (arith, (frame_ahead _ _ _ (sym c.look_ahead.ensures ∙ c.in-Ok.is)).few)
 
-pub slice_bounds-put_frame_line-end-in-loop-size : goal.slice_bounds-put_frame_line-end-in-loop-size
-slice_bounds-put_frame_line-end-in-loop-size c = let k = (frame_ahead _ _ _ (sym c.look_ahead.ensures ∙ c.in-Ok.is)).whole in omega arith
+pub slice_bounds-put_frame_line-end : goal.slice_bounds-put_frame_line-end
+slice_bounds-put_frame_line-end c = let k = (frame_ahead _ _ _ (sym c.look_ahead.ensures ∙ c.in-Ok.is)).whole in omega arith
 
 pub loop-size-smaller : goal.loop-size-smaller
 loop-size-smaller c = omega (arith, frame_inside c.args.piece.now _ _ _ (sym c.look_ahead.ensures ∙ c.in-Ok.is))
@@ -29,10 +29,10 @@ loop-size-preserved c =
     let ahead = sym c.look_ahead.ensures ∙ c.in-Ok.is ∙ ap Ok (sym c.from-end.ensures) in
     let shown : size + 1 - 1 ≡ size = omega arith in
     let rest = take (length piece - loop.used) (drop loop.used piece) in
-    let line = c.put_frame_line-line.ensures in
+    let line = c.put_frame_line.ensures in
     record {
       used = frame_inside piece _ _ _ ahead;
-      same_reference = loop.invariant.same_reference;
+      same_reference = line.line.same_reference ∙ loop.invariant.same_reference;
       left = turn_listed piece (held loop.out) loop.totals loop.used _ _ _ _ (take_rest loop.used piece)
-          (ap (λ (n : ℕ). take n (drop 1 rest)) shown) c.saturating_sub-room.ensures ahead line.0 (rw (line.1, line.2) at c.then_some.ensures) c.count.ensures loop.invariant.left;
+          (ap (λ (n : ℕ). take n (drop 1 rest)) shown) c.saturating_sub-room.ensures ahead line.line.held line.blocks c.count.ensures loop.invariant.left;
     }
