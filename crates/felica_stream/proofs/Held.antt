@@ -9,7 +9,7 @@ use Rattle.std.specs.Io.KnownBytes.{Consumes}
 use Rattle.std.specs.declared.option.Option.{Option}
 use Rattle.felica_put.specs.Put.{Buffer}
 use Rattle.felica_put.specs.declared.Output.{Output}
-use Rattle.felica_stream.specs.Held.{moved, still_waiting, RoomMade}
+use Rattle.felica_stream.specs.Held.{moved, still_waiting, IsWithin, RoomMade}
 
 -- what a read puts behind the bytes held
 behind_front : (at n : ℕ) (s buf rest : List ℕ) → at ≤ length s → n ≤ length buf → drop at (take (at + n) (take at s ++ (buf ++ rest))) ≡ take n buf
@@ -58,7 +58,7 @@ module _ {a b : Output ℕ} {room : ℕ} (e : RoomMade a b room) where
   pub room_length : length b.room.now ≡ length a.room.now
   room_length = ap (λ (x : Buffer). length x.bytes) e.held
 
-  pub waits_inside : b.len ≤ length b.room.now
+  pub waits_inside : IsWithin b
   waits_inside = omega (arith, still_is, room_length, waits a.len room (length a.room.now) (leb (a.len + room) (length a.room.now)) refl)
 
   pub room_made : room ≤ length a.room.now → b.len + room ≤ length b.room.now

@@ -1,6 +1,6 @@
 -- Input that is held from one read to the next, and output that waits.
 -- Assumes nothing.
-use Rattle.std.specs.Prelude.{ℕ, ◌+◌, ◌-◌, ◌≡◌, cond, List, leb, length, drop}
+use Rattle.std.specs.Prelude.{ℕ, ◌+◌, ◌-◌, ◌≤◌, ◌≡◌, cond, List, leb, length, drop}
 use Rattle.std.proofs.Math.Seq.{paste}
 use Rattle.felica_put.specs.Put.{buffer}
 use Rattle.felica_put.specs.Output.{held}
@@ -13,6 +13,10 @@ moved s from end = cond (leb end (length s)) (paste s 0 (drop from s) (end - fro
 -- how many bytes wait in an output of some length where room is needed behind them: as many as before, or none, since they are written
 abbrev pub still_waiting : ℕ → ℕ → ℕ → ℕ
 still_waiting length waiting room = cond (leb (waiting + room) length) waiting 0
+
+-- what an output holds is within its room
+abbrev pub IsWithin : Output ℕ → Type 0
+IsWithin out = out.len ≤ length out.room.now
 
 -- b is a with room made behind what it holds, in the same buffer
 pub record RoomMade (a b : Output ℕ) (room : ℕ) : Type 0 where

@@ -2,7 +2,7 @@
 -- Assumes nothing.
 use Rattle.std.proofs.Common.{ℕ, zero, suc, ◌+◌, ◌-◌, ◌≤◌, ◌<◌, zero-add, arith, ◌≡◌, refl, sym, ap, ◌∙◌, subst, ◌⊎◌, inl, inr, Bool, true, false, cond, ◌&&◌, true≢false, List, [], ◌∷◌, ◌++◌, append_assoc, append-nil, ltb, leb, length, get_or, take, drop, length-drop, length-append, take-append-drop, length-take-le, drop-drop, eqb-true, ltb-true, ltb-false, leb-true, leb-false, le-leb}
 use Rattle.std.proofs.Math.Nat.{sub-zero}
-use Rattle.std.proofs.Math.Seq.{take-nil, paste}
+use Rattle.std.proofs.Math.Seq.{paste}
 use Rattle.std.proofs.lemmas.List.{drop-take, take-append-le}
 use Rattle.std.proofs.lemmas.List.Edits.{take-paste}
 use Rattle.std.specs.Prelude.{nat_eq, None, Some, Result, Ok, Err, OnOk, MatchResult}
@@ -11,7 +11,7 @@ use Rattle.std.specs.declared.option.Option.{Option}
 use Rattle.std.specs.Io.KnownBytes.{Consumes, Appends, IsAtEnd}
 use Rattle.felica_put.specs.declared.Output.{Output}
 use Rattle.felica_put.specs.Output.{Puts, held}
-use Rattle.felica_put.specs.Put.{Buffer, buffer, put}
+use Rattle.felica_put.specs.Put.{Buffer}
 use Rattle.felica_put.proofs.Laws.{put_room, put_taken, kept}
 use Rattle.felica_totals.specs.declared.Totals.{Totals}
 use Rattle.felica_totals.specs.Count.{no_totals}

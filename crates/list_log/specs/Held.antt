@@ -7,7 +7,7 @@ use Rattle.std.specs.Io.KnownBytes.{Consumes, Appends, IsAtEnd}
 use Rattle.felica_totals.specs.declared.Totals.{Totals}
 use Rattle.felica_put.specs.Put.{Buffer}
 use Rattle.felica_put.specs.declared.Output.{Output}
-use Rattle.felica_stream.specs.Held.{still_waiting}
+use Rattle.felica_stream.specs.Held.{still_waiting, IsWithin}
 use Rattle.felica_log.specs.Listing.{max_records, records_left, listing_from, listing}
 use Rattle.felica_log.specs.Step.{line_room}
 use Rattle.felica_log.specs.Rules.{NoneLeft}
@@ -60,7 +60,7 @@ EndPut b text after =
 
 -- an output with room for a line, which holds no more than its room
 pub record HasLineRoom (out : Output ℕ) : Type 0 where
-  pub inside : out.len ≤ length out.room.now
+  pub inside : IsWithin out
   pub line : line_room ≤ length out.room.now
 
 -- nothing more is to be read: the input has ended, or a byte follows the last record that may be read

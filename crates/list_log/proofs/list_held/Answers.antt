@@ -1,6 +1,6 @@
 -- `list_held` meets its contract: a step for each turn.
 -- Assumes nothing.
-use Rattle.std.proofs.Common.{◌+◌, ◌-◌, ◌≤◌, refl, sym, ap, ◌∙◌, subst, arith, length, drop, length-drop, drop-drop}
+use Rattle.std.proofs.Common.{◌+◌, ◌≤◌, refl, sym, ap, ◌∙◌, subst, arith, length, drop, length-drop, drop-drop}
 use Rattle.felica_put.specs.Output.{held}
 use Rattle.felica_put.proofs.Laws.{take_rest}
 use Rattle.felica_log.specs.Rules.{NoneLeft}
