@@ -1,9 +1,8 @@
 -- Digits and bytes, and the parts of a line.
 -- Assumes nothing.
 use Rattle.std.proofs.Common.{ℕ, ◌-◌, ◌/◌, ◌%◌, ◌≤◌, ◌<◌, ◌≡◌, refl, ap, ◌∙◌, Bool, true, false, cond, eqb, ltb, leb, List, [], ◌∷◌, ◌++◌, length, get_or, take, drop, arith, length-take, ltb-false, leb-true, ne_eqb, le-ltb}
-use Rattle.std.specs.Prelude.{Ok}
+use Rattle.std.specs.Prelude.{Ok, Some, None}
 use Rattle.felica_text.specs.Text.{digit_of, before}
-use Rattle.felica_text.specs.declared.hex.Digit.TheVariants.{Value, NoDigit}
 use Rattle.felica_put.specs.Put.{Buffer, buffer, put}
 use Rattle.felica_put.proofs.Laws.{put_front, take_rest}
 use Rattle.felica_calls.specs.Field.{is_byte}
@@ -12,7 +11,7 @@ use Rattle.felica_calls.specs.Bytes.{value_of, byte_of, bytes_of, all_digits, re
 
 -- a digit's value is below 16
 small : (d : ℕ) (a b c e : Bool) → ltb d 48 ≡ a → leb d 57 ≡ b → ltb d 65 ≡ c → leb d 70 ≡ e
-    → value_of (cond a NoDigit (cond b (Value (d - 48)) (cond c NoDigit (cond e (Value (d - 55)) NoDigit)))) < 16
+    → value_of (cond a None (cond b (Some (d - 48)) (cond c None (cond e (Some (d - 55)) None)))) < 16
 small d true b c e ha hb hc he = omega arith
 small d false true c e ha hb hc he = omega (arith, ltb-false, leb-true)
 small d false false true e ha hb hc he = omega arith

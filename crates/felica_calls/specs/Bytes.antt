@@ -1,23 +1,21 @@
 -- The bytes of a call: hexadecimal digits, which go to a lent buffer.
 -- Assumes nothing.
-use Rattle.std.specs.Prelude.{ℕ, ◌+◌, ◌*◌, ◌/◌, ◌%◌, Bool, true, false, not, cond, List, [], ◌∷◌, ◌++◌, length, drop, ltb, eqb, Ok, Err}
+use Rattle.std.specs.Prelude.{ℕ, ◌+◌, ◌*◌, ◌/◌, ◌%◌, Bool, true, false, not, cond, List, [], ◌∷◌, ◌++◌, length, drop, ltb, eqb, Ok, Err, Option, Some, None}
 use Rattle.std.specs.List.{list_all}
 use Prim.Native.Char.{code}
 use Rattle.felica_text.specs.Text.{digit_of}
-use Rattle.felica_text.specs.declared.hex.Digit.{Digit}
-use Rattle.felica_text.specs.declared.hex.Digit.TheVariants.{Value, NoDigit}
 use Rattle.felica_calls.specs.Field.{next_field, is_byte}
 use Rattle.felica_calls.specs.Read.{Read, read}
 use Rattle.felica_calls.specs.declared.fault.Fault.TheVariants.{MissingField, ExtraField, NoDigit as NotADigit, OddDigits, TooManyBytes}
 
 -- hexadecimal digits as bytes; what is no digit counts as 0
-abbrev pub is_digit : Digit → Bool
-is_digit (Value v) = true
-is_digit NoDigit = false
+abbrev pub is_digit : Option ℕ → Bool
+is_digit (Some v) = true
+is_digit None = false
 
-abbrev pub value_of : Digit → ℕ
-value_of (Value v) = v
-value_of NoDigit = 0
+abbrev pub value_of : Option ℕ → ℕ
+value_of (Some v) = v
+value_of None = 0
 
 unfoldable pub all_digits : List ℕ → Bool
 all_digits s = list_all (λ d. is_digit (digit_of d)) s

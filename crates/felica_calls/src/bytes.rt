@@ -9,7 +9,7 @@ use crate::fault::Fault;
 use crate::field::behind_space;
 use felica_put::Output;
 use felica_text::find::find;
-use felica_text::hex::{Digit, digit_value};
+use felica_text::hex::digit_value;
 
 // How many there are in the last field, with the space before it.
 #[tactic(auto, unfolding(crate::specs::Bytes::read_last))]
@@ -61,9 +61,7 @@ pub fn decode(field: &[u8], bytes: &mut Output<u8>)
 pub fn all_digits(field: &[u8]) -> bool
     ensures { result ≡ all_digits field.now }
 {
-    field
-        .iter()
-        .all(|digit| matches!(digit_value(*digit), Digit::Value(_)))
+    field.iter().all(|digit| digit_value(*digit).is_some())
 }
 
 pub(crate) fn byte_of(high: u8, low: u8) -> u8
@@ -76,8 +74,5 @@ pub(crate) fn byte_of(high: u8, low: u8) -> u8
 pub fn value_of(digit: u8) -> u8
     ensures { result ≡ value_of (digit_of digit) }
 {
-    match digit_value(digit) {
-        Digit::Value(value) => value,
-        Digit::NoDigit => 0,
-    }
+    digit_value(digit).unwrap_or(0)
 }

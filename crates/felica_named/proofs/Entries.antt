@@ -9,7 +9,7 @@ use borrow.Author.Tests.{eq-eqb, ne_eqb}
 use Rattle.felica_format.specs.Basic.{◌and◌}
 use Rattle.felica_put.proofs.Laws.{drop_next}
 use Rattle.felica_text.specs.Text.{digit_of}
-use Rattle.felica_text.specs.declared.hex.Digit.TheVariants.{Value, NoDigit}
+use Rattle.std.specs.Prelude.{Some, None}
 use Rattle.felica_named.specs.Form.{entry_well, entries}
 
 module _ (least most k : ℕ) (s : List ℕ) (i : ℕ) (h : i < length s) where
@@ -21,11 +21,11 @@ module _ (least most k : ℕ) (s : List ℕ) (i : ℕ) (h : i < length s) where
   unfolding entries ◌and◌
   entry_next comma e = rw (drop_next s i 0 h, eq-eqb _ _ comma, e)
 
-  pub entry_none : (get_or s i 0 ≡ 44 → ⊥) → digit_of (get_or s i 0) ≡ NoDigit → entries least most k (drop i s) ≡ false
+  pub entry_none : (get_or s i 0 ≡ 44 → ⊥) → digit_of (get_or s i 0) ≡ None → entries least most k (drop i s) ≡ false
   unfolding entries ◌and◌
   entry_none other e = rw (drop_next s i 0 h, ne_eqb _ _ other, e)
 
-  pub entry_digit : {v : ℕ} → (get_or s i 0 ≡ 44 → ⊥) → digit_of (get_or s i 0) ≡ Value v
+  pub entry_digit : {v : ℕ} → (get_or s i 0 ≡ 44 → ⊥) → digit_of (get_or s i 0) ≡ Some v
       → entries least most k (drop i s) ≡ entries least most (k + 1) (drop (i + 1) s)
   unfolding entries ◌and◌
   entry_digit other e = rw (drop_next s i 0 h, ne_eqb _ _ other, e)

@@ -3,7 +3,7 @@ ghost use Rattle.std.specs.Prelude.{◌≡◌};
 ghost use Rattle.felica_named.specs.Form.{longest, well_formed, challenge_form, has_digits, is_bytes, is_list, entries, entry_well};
 
 use felica_calls::bytes::all_digits;
-use felica_text::hex::{Digit, digit_value};
+use felica_text::hex::digit_value;
 
 // 1024 codes or block numbers with the commas between them; 16384 bytes.
 const MAX_LIST_TEXT: usize = 5119;
@@ -94,7 +94,7 @@ fn are_entries(value: &[u8], least: usize, most: usize) -> bool
             count = 0;
         } else {
             let digit = digit_value(byte);
-            if let Digit::NoDigit = digit {
+            if let None = digit {
                 return false;
             }
             count += 1;

@@ -3,8 +3,7 @@
 
 ghost use Rattle.std.specs.Prelude.{◌≡◌, ◌≤◌};
 ghost use Rattle.felica_format.specs.Basic.{zeros};
-ghost use Rattle.felica_put.specs.Put.{buffer, put};
-ghost use Rattle.felica_calls.specs.Fault.{fault_text};
+ghost use Rattle.felica_put.specs.Output.{Puts};
 ghost use Rattle.felica_calls.specs.Write.{max_room};
 ghost use Rattle.felica_named.specs.Handed.{command_over, command_named};
 ghost use Rattle.felica_write.specs.Writing.{writing};
@@ -29,27 +28,20 @@ const MAX_SMALL: usize = 2560;
 const MAX_BYTES: usize = 16384;
 
 // The fields stand in `text`, behind the command code.
-pub fn answer_write(size: usize, code: u8, text: &[u8], out: &mut [u8], at: usize) -> usize
-    ensures { buffer out.new result ≡ put (buffer out.old at) (write_answer size code text.now) }
+pub fn answer_write(size: usize, code: u8, text: &[u8], out: &mut Output<u8>)
+    ensures { Puts out.old out.new (write_answer size code text.now) }
 {
     // No call that was read has such a size; but this function asks nothing of its caller.
     if MAX_ROOM < size {
-        return answer_fault(Fault::BufferTooLong, out, at);
+        put_fault(out, Fault::BufferTooLong);
+        return;
     }
     let mut starts = [0usize; NAMES];
     let noted = note_fields(text, &mut starts);
     match noted {
-        Noted::Whole => answer_named(size, code, text, &starts, out, at),
-        Noted::Wrong(fault) => answer_fault(fault, out, at),
+        Noted::Whole => answer_named(size, code, text, &starts, out),
+        Noted::Wrong(fault) => put_fault(out, fault),
     }
-}
-
-fn answer_fault(fault: Fault, out: &mut [u8], at: usize) -> usize
-    ensures { buffer out.new result ≡ put (buffer out.old at) (fault_text fault) }
-{
-    let mut output = Output { room: out, len: at };
-    put_fault(&mut output, fault);
-    output.len
 }
 
 fn answer_named(
@@ -57,11 +49,10 @@ fn answer_named(
     code: u8,
     text: &[u8],
     starts: &[usize],
-    out: &mut [u8],
-    at: usize,
-) -> usize
+    out: &mut Output<u8>,
+)
     requires { size ≤ max_room }
-    ensures { buffer out.new result ≡ put (buffer out.old at) (written_line (writing (command_named code text.now starts.now) (zeros size))) }
+    ensures { Puts out.old out.new (written_line (writing (command_named code text.now starts.now) (zeros size))) }
 {
     let mut first = [0u16; MAX_WORDS];
     let mut second = [0u16; MAX_WORDS];
@@ -84,8 +75,7 @@ fn answer_named(
         &mut package,
         &mut room[..size],
         out,
-        at,
-    )
+    );
 }
 
 // The same, in buffers that are lent for what the writer takes and for what it writes.
@@ -101,10 +91,9 @@ fn answer_from(
     data: &mut [u8],
     package: &mut [u8],
     room: &mut [u8],
-    out: &mut [u8],
-    at: usize,
-) -> usize
-    ensures { buffer out.new result ≡ put (buffer out.old at) (written_line (writing (command_over code text.now starts.now first.old second.old numbers.old places.old modes.old «data».old «package».old) room.old)) }
+    out: &mut Output<u8>,
+)
+    ensures { Puts out.old out.new (written_line (writing (command_over code text.now starts.now first.old second.old numbers.old places.old modes.old «data».old «package».old) room.old)) }
 {
     let first_end = words_named(text, starts, FIRST, first);
     let second_end = words_named(text, starts, SECOND, second);
@@ -125,5 +114,5 @@ fn answer_from(
         &package[..package_end],
         room,
     );
-    put_written(out, at, written, room)
+    put_written(out, written, room);
 }

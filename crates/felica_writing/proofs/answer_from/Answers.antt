@@ -1,11 +1,10 @@
 -- `felica_writing::answer_from` meets its contract: the fields are read, written, and the answer is put.
 -- Assumes nothing.
-use Prim.Native.Nat.{zero-le}
-use mathlib.Core.Path.{sym, ap, ◌∙◌}
-use lib.Seq.{length-take-le}
+use Rattle.std.proofs.Common.{zero-le, sym, ap, ◌∙◌}
+use Rattle.std.proofs.lemmas.List.{length-take-le}
 use Rattle.felica_format.specs.Basic.{◌and◌}
-use Rattle.felica_put.specs.Put.{buffer, put}
 use Rattle.felica_put.proofs.Laws.{put_within}
+use Rattle.felica_put.proofs.Lists.{puts_same}
 use Rattle.felica_named.specs.Names.{names, begins_with, place_in}
 use Rattle.felica_named.specs.Handed.{front_of}
 use Rattle.felica_named.proofs.Fields.{command_given}
@@ -81,4 +80,4 @@ returns c = let a = c.args in
     (ap front_of c.small_named-modes_end.ensures)
     (ap front_of c.bytes_named-data_end.ensures)
     (ap front_of c.bytes_named-package_end.ensures) in
-    c.put_written.ensures ∙ ap (λ o. put (buffer a.out.now a.at) (written_line o)) (c.write-written.ensures ∙ ap (λ x. writing x a.room.now) command)
+    puts_same c.put_written.ensures (ap written_line (c.write-written.ensures ∙ ap (λ x. writing x a.room.now) command))

@@ -1,7 +1,7 @@
 -- `felica_writing::answer_named` meets its contract.
 -- Assumes nothing.
-use mathlib.Core.Path.{ap, ◌∙◌}
-use Rattle.felica_put.specs.Put.{buffer, put}
+use Rattle.std.proofs.Common.{ap}
+use Rattle.felica_put.proofs.Lists.{puts_same}
 use Rattle.felica_named.specs.Handed.{command_named}
 use Rattle.felica_write.specs.Writing.{writing}
 use Rattle.felica_answers.specs.Written.{written_line}
@@ -12,5 +12,6 @@ pub slice_bounds-answer_from-end-8 : goal.slice_bounds-answer_from-end-8
 slice_bounds-answer_from-end-8 c = zeros_taken c.args.size 16384 c.requires
 
 pub returns : goal.returns
-returns c = let a = c.args in
-    c.answer_from.ensures ∙ ap (λ l. put (buffer a.out.now a.at) (written_line (writing (command_named a.code a.text.now a.starts.now) l))) (take_zeros a.size 16384 c.requires)
+returns c =
+    let a = c.args in
+    puts_same c.answer_from.ensures (ap (λ l. written_line (writing (command_named a.code a.text.now a.starts.now) l)) (take_zeros a.size 16384 c.requires))

@@ -23,8 +23,8 @@ loop-i-smaller-then-byte-eq44 c = omega arith
 pub loop-i-preserved-then-byte-eq44 : goal.loop-i-preserved-then-byte-eq44
 loop-i-preserved-then-byte-eq44 c = (omega arith, omega arith, sym (entry_next _ _ _ _ _ c.loop-i-test.true c.if-byte-eq44.true (sym c.is_entry.ensures ∙ c.if-not-is_entry.false)) ∙ c.loop-i.invariant.2)
 
-pub returns-in-NoDigit : goal.returns-in-NoDigit
-returns-in-NoDigit c = sym (entry_none _ _ _ _ _ c.loop-i-test.true c.if-byte-eq44.false (sym c.digit_value-digit.ensures ∙ c.in-NoDigit.is)) ∙ c.loop-i.invariant.2
+pub returns-in-None : goal.returns-in-None
+returns-in-None c = sym (entry_none _ _ _ _ _ c.loop-i-test.true c.if-byte-eq44.false (sym c.digit_value-digit.ensures ∙ c.in-None.is)) ∙ c.loop-i.invariant.2
 
 pub overflow_add-count : goal.overflow_add-count
 overflow_add-count c = omega arith
