@@ -1,8 +1,8 @@
 // Answers calls: reads them on standard input, a line each, and writes a line for each to standard output.
 #![tactic(auto)]
 
-ghost use Rattle.std.specs.Prelude.{◌≤◌, length};
-ghost use Rattle.felica_put.specs.Put.{buffer};
+ghost use Rattle.std.specs.Prelude.{◌≡◌, ◌≤◌, length};
+ghost use Rattle.felica_put.specs.Output.{held};
 ghost use Rattle.felica_calls.specs.Call.{read_call};
 ghost use Rattle.felica.specs.Answers.{Answered, LineAnswered};
 
@@ -12,7 +12,7 @@ mod parse;
 use felica_calls::call::{Call, read_call};
 use felica_calls::fault::{Fault, put_fault};
 use felica_calls::write::behind_code;
-use felica_put::{Output, put_byte};
+use felica_put::Output;
 use felica_stream::{keep_rest, make_room, read_more};
 use felica_text::find::find;
 use felica_writing::answer_write;
@@ -36,29 +36,25 @@ struct State {
 }
 
 // An empty line is answered too, so that there is a line for each line.
-fn answer_call(line: &[u8], bytes: &mut [u8], out: &mut [u8], at: usize) -> usize
-    ensures { Answered line.now (read_call line.now bytes.old) (buffer out.old at) (buffer out.new result) }
+fn answer_call(line: &[u8], bytes: &mut [u8], out: &mut Output<u8>)
+    ensures same_reference { out.new.room.ghost_name ≡ out.old.room.ghost_name }
+    ensures answered { Answered line.now (read_call line.now bytes.old) (held out.old) (held out.new) }
 {
     match read_call(line, bytes) {
-        Ok(Call::Parse(source, count)) => answer_parse(source, &bytes[..count], out, at),
-        Ok(Call::Long(source, count)) => answer_long(source, &bytes[..count], out, at),
-        Ok(Call::List(source, count, sizes)) => {
-            answer_list(source, &bytes[..count], sizes, out, at)
-        }
-        Ok(Call::Write(size, code)) => answer_write(size, code, behind_code(line), out, at),
-        Err(fault) => {
-            let mut output = Output { room: out, len: at };
-            put_fault(&mut output, fault);
-            output.len
-        }
+        Ok(Call::Parse(source, count)) => answer_parse(source, &bytes[..count], out),
+        Ok(Call::Long(source, count)) => answer_long(source, &bytes[..count], out),
+        Ok(Call::List(source, count, sizes)) => answer_list(source, &bytes[..count], sizes, out),
+        Ok(Call::Write(size, code)) => answer_write(size, code, behind_code(line), out),
+        Err(fault) => put_fault(out, fault),
     }
 }
 
-fn answer_line(line: &[u8], bytes: &mut [u8], out: &mut [u8], at: usize) -> usize
-    ensures { LineAnswered line.now (read_call line.now bytes.old) (buffer out.old at) (buffer out.new result) }
+fn answer_line(line: &[u8], bytes: &mut [u8], out: &mut Output<u8>)
+    ensures same_reference { out.new.room.ghost_name ≡ out.old.room.ghost_name }
+    ensures answered { LineAnswered line.now (read_call line.now bytes.old) (held out.old) (held out.new) }
 {
-    let next = answer_call(line, bytes, out, at);
-    put_byte(out, next, b'\n')
+    answer_call(line, bytes, out);
+    out.put(b'\n');
 }
 
 // Answers the whole lines of `input`; what is held then is the rest of it.
@@ -92,7 +88,12 @@ fn answer_lines<W: Write>(
                 failed: true,
             };
         }
-        next = answer_line(&rest[..end], bytes, out, output.waiting);
+        let mut answers = Output {
+            room: out,
+            len: output.waiting,
+        };
+        answer_line(&rest[..end], bytes, &mut answers);
+        next = answers.len;
         from = from + end + 1;
     }
     State {
@@ -213,8 +214,12 @@ fn run<R: Read, W: Write>(
     if output.failed {
         return;
     }
-    let end = answer_line(&input[..held], bytes, out, output.waiting);
-    let _ = writer.write_all(&out[..end]);
+    let mut answers = Output {
+        room: out,
+        len: output.waiting,
+    };
+    answer_line(&input[..held], bytes, &mut answers);
+    let _ = writer.write_all(answers.filled());
 }
 
 fn main(rt: HostRuntime) {
