@@ -1,8 +1,8 @@
 // Answers calls: reads them on standard input, a line each, and writes a line for each to standard output.
 #![tactic(auto)]
 
-ghost use Rattle.std.specs.Prelude.{◌≤◌, length, IfOk};
-ghost use Rattle.felica_put.specs.Output.{held as put_in};
+ghost use Rattle.std.specs.Prelude.{◌≡◌, ◌≤◌, length, IfOk};
+ghost use Rattle.felica_put.specs.Output.{held};
 ghost use Rattle.felica_stream.specs.Held.{IsWithin};
 ghost use Rattle.felica_calls.specs.Call.{read_call};
 ghost use Rattle.felica.specs.Answers.{Answered, LineAnswered};
@@ -29,26 +29,22 @@ const MAX_CALL_BYTES: usize = 16384;
 const ANSWER_ROOM: usize = 33024;
 
 // An empty line is answered too, so that there is a line for each line.
-fn answer_call(line: &[u8], bytes: &mut [u8], out: &mut [u8], at: usize) -> usize
-    ensures { Answered line.now (read_call line.now bytes.old) (buffer out.old at) (buffer out.new result) }
+fn answer_call(line: &[u8], bytes: &mut [u8], out: &mut Output<u8>)
+    ensures same_reference { out.new.room.ghost_name ≡ out.old.room.ghost_name }
+    ensures answered { Answered line.now (read_call line.now bytes.old) (held out.old) (held out.new) }
 {
     match read_call(line, bytes) {
-        Ok(Call::Parse(source, count)) => answer_parse(source, &bytes[..count], out, at),
-        Ok(Call::Long(source, count)) => answer_long(source, &bytes[..count], out, at),
-        Ok(Call::List(source, count, sizes)) => {
-            answer_list(source, &bytes[..count], sizes, out, at)
-        }
-        Ok(Call::Write(size, code)) => answer_write(size, code, behind_code(line), out, at),
-        Err(fault) => {
-            let mut output = Output { room: out, len: at };
-            put_fault(&mut output, fault);
-            output.len
-        }
+        Ok(Call::Parse(source, count)) => answer_parse(source, &bytes[..count], out),
+        Ok(Call::Long(source, count)) => answer_long(source, &bytes[..count], out),
+        Ok(Call::List(source, count, sizes)) => answer_list(source, &bytes[..count], sizes, out),
+        Ok(Call::Write(size, code)) => answer_write(size, code, behind_code(line), out),
+        Err(fault) => put_fault(out, fault),
     }
 }
 
 fn answer_line(line: &[u8], bytes: &mut [u8], out: &mut Output<u8>)
-    ensures { LineAnswered line.now (read_call line.now bytes.old) (put_in out.old) (put_in out.new) }
+    ensures same_reference { out.new.room.ghost_name ≡ out.old.room.ghost_name }
+    ensures answered { LineAnswered line.now (read_call line.now bytes.old) (held out.old) (held out.new) }
 {
     answer_call(line, bytes, out);
     out.put(b'\n');

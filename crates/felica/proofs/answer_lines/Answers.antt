@@ -1,10 +1,8 @@
 -- `felica::answer_lines` stays within the input and the output.
 -- Assumes nothing.
 use Rattle.felica.proofs.Within.{line_within}
-use native.Mathlib.Omega.{arith}
-use mathlib.Core.Path.{refl, sym, ◌∙◌}
-use lib.ListN.{length-take, length-drop}
-use lib.Seq.{length-take-le}
+use Rattle.std.proofs.Common.{refl, sym, ◌∙◌, arith, rules, length-take, length-drop}
+use Rattle.std.proofs.lemmas.List.{length-take-le}
 use Rattle.felica_stream.proofs.Held.{waits_inside}
 use Rattle.felica.proofs.answer_lines.Goals as goal
 
@@ -52,8 +50,9 @@ loop-from-smaller g c = let d = simp (length-take, length-drop) at c.if-rest-end
 
 pub loop-from-preserved : goal.loop-from-preserved
 loop-from-preserved g c = let d = simp (length-take, length-drop) at c.if-rest-end.false in
-    let w = c.answer_line-next in
-    (omega arith, line_within _ _ _ _ _ _ w.ensures (waits_inside _ _ _ _ c.make_room-output.ensures.counts.0), w.auto.bytes ∙ c.loop-from.invariant.2, w.auto.out ∙ c.loop-from.invariant.3)
+    let w = c.answer_line in
+    let inside = line_within _ _ _ _ _ _ w.ensures.answered (waits_inside _ _ _ _ c.make_room-output.ensures.counts.0) in
+    (omega arith, search (rules, inside), w.auto.bytes ∙ c.loop-from.invariant.2, search rules)
 
 pub shape_of-bytes : goal.shape_of-bytes
 shape_of-bytes g c = c.loop-from.invariant.2
