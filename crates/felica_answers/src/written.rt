@@ -5,18 +5,18 @@ ghost use Rattle.felica_write.specs.Writing.{meaning, outcome};
 ghost use Rattle.felica_answers.specs.Written.{bytes_line, written_line};
 
 use crate::lists::front_bytes;
+use felica_command::command::Refusal;
 use felica_fields::refusal::put_refusal;
 use felica_put::{put_byte, put_bytes};
 use felica_text::put::{put_decimal, put_hex};
-use felica_write::Written;
 
 // The bytes stand at the front of the buffer that the writer was lent.
-pub fn put_written(out: &mut [u8], at: usize, written: Written, room: &[u8]) -> usize
+pub fn put_written(out: &mut [u8], at: usize, written: Result<usize, Refusal>, room: &[u8]) -> usize
     ensures { buffer out.new result ≡ put (buffer out.old at) (written_line (outcome (meaning written) room.now)) }
 {
     match written {
-        Written::Length(count) => put_count_and_bytes(out, at, count, front_bytes(room, count)),
-        Written::Refused(refusal) => put_refusal(out, at, refusal),
+        Ok(count) => put_count_and_bytes(out, at, count, front_bytes(room, count)),
+        Err(refusal) => put_refusal(out, at, refusal),
     }
 }
 
