@@ -49,15 +49,6 @@ enough_test : (b : Bool) → cond {A = Room} b (Err 21) (Ok tt) ≡ Ok tt → b 
 enough_test true r = cc
 enough_test false r = refl
 
-not_enough : {g : ℕ} → ◌≡◌ {A = Room} (Err g) (Ok tt) → ⊥
-not_enough r = let z : ◌≡◌ {A = ℕ} 0 1 = cc in omega arith
-
-not_refused : {g : ℕ} → ◌≡◌ {A = Room} (Ok tt) (Err g) → ⊥
-not_refused r = let z : ◌≡◌ {A = ℕ} 0 1 = cc in omega arith
-
-not_plain : Secure ≡ Plain → ⊥
-not_plain r = let z : ◌≡◌ {A = ℕ} 0 1 = cc in omega arith
-
 -- the row of the code handed in
 module _ (c : Command) (k : Class) (l : Layout) (found : row k l ≡ row_of c.code) where
   class_is : k ≡ class_of c.code
@@ -114,7 +105,7 @@ module _ (c : Command) (k : Class) (l : Layout) (found : row k l ≡ row_of c.co
           go false true long small r =
               inr
               (cc, rw (frame_is, plain_whole e) (le-leb (2 + size) 255 (ltb-false 255 (2 + size) long)), rw (frame_is, plain_whole e) (ltb-true (length out) (2 + size) small))
-          go false false long small r = absurd (not_refused r)
+          go false false long small r = cc
 
       payload_ground : (g : ℕ) → payload_room size (length c.issue_package) (length out) ≡ Err g → Ground Secure g
       unfolding Ground
@@ -123,7 +114,7 @@ module _ (c : Command) (k : Class) (l : Layout) (found : row k l ≡ row_of c.co
           go : (b : Bool) → ltb (length out) (size + length c.issue_package) ≡ b → cond {A = Room} b (Err 21) (Ok tt) ≡ Err g
               → ((g ≡ 22) × (fits_class Secure c ≡ false)) ⊎ ((g ≡ 21) × (fits_class Secure c ≡ true) × (length out < length (shortest Secure c)))
           go true small r = inr (cc, refl, rw (payload_is, sym whole) (ltb-true _ _ small))
-          go false small r = absurd (not_refused r)
+          go false small r = cc
 
       ground : (j : Class) (g : ℕ) → k ≡ j → room_for j size (length c.issue_package) (length out) ≡ Err g → Ground j g
       unfolding Ground
@@ -140,7 +131,7 @@ module _ (c : Command) (k : Class) (l : Layout) (found : row k l ≡ row_of c.co
       enough Secure e r =
           let room = ltb-false (length out) (size + length c.issue_package) (enough_test (ltb (length out) (size + length c.issue_package)) r) in
           rw payload_is (refl, omega (arith, whole, room), refl)
-      enough Unknown e r = absurd (not_enough r)
+      enough Unknown e r = cc
 
       may : (b : Bool) → fits_class k c ≡ b → writable c ≡ b
       unfolding writable
@@ -167,9 +158,3 @@ module _ (c : Command) (k : Class) (l : Layout) (found : row k l ≡ row_of c.co
       all_stored r after n e =
           let h = enough k refl r in
           stored_whole c out (shortest k c) (may true h.0) (ap (λ (j : Class). shortest j c) (sym class_is)) after n h.1 (e ∙ ap (put (buffer out 0)) (sym h.2))
-
--- the length byte of a frame that there is room for
-pub one_byte : (k : Class) (size pack room : ℕ) → room_for k size pack room ≡ Ok tt → k ≡ Plain → 2 + size ≤ 255
-one_byte Plain size pack room r e = ltb-false 255 (2 + size) (enough_tests (ltb 255 (2 + size)) (ltb room (2 + size)) r).0
-one_byte Secure size pack room r e = absurd (not_plain e)
-one_byte Unknown size pack room r e = absurd (not_enough r)

@@ -54,7 +54,7 @@ record Stored (c : Command) (b : List ℕ) (n : ℕ) (a : List ℕ) : Type 0 whe
   held : a ≡ bytes ++ drop (length bytes) b
 
 wrote_not : {n m : ℕ} {k : Option ℕ} → wrote n ≡ refused m k → ⊥
-wrote_not e = let z : ◌≡◌ {A = ℕ} 0 1 = cc in omega arith
+wrote_not e = cc
 
 stored_of : (c : Command) (b : List ℕ) (n : ℕ) (a : List ℕ) → WriterAccount c b (Ok n) a → Stored c b n a
 unfolding writing
@@ -95,7 +95,7 @@ two_refusals c b r a n code e said = go (written c) (sym said ∙ ap (λ o. o.an
     go (some s) answer = fit s (ltb (length b) (length s)) answer
 
 not_both : {j k : Option ℕ} → refused 21 j ≡ refused 22 k → ⊥
-not_both e = let z : ◌≡◌ {A = ℕ} 21 22 = cc in omega arith
+not_both e = cc
 
 pub twenty_one_exactly : TwentyOneExactly
 unfolding writing

@@ -7,7 +7,7 @@ use Rattle.felica_put.proofs.Laws.{puts_then}
 use Rattle.felica_writable.specs.Handed.{handed_by}
 use Rattle.felica_write.specs.Head.{Room, room_for}
 use Rattle.felica_write.specs.Writing.{refusal}
-use Rattle.felica_write.proofs.Outcome.{may_be_put, no_body, not_stored, all_stored, one_byte}
+use Rattle.felica_write.proofs.Outcome.{may_be_put, no_body, not_stored, all_stored}
 use Rattle.felica_write.proofs.write.Goals as goal
 
 pub returns-then-not-body_ok : goal.returns-then-not-body_ok
