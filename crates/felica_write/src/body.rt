@@ -76,11 +76,13 @@ fn put_counted(out: &mut Output<'_, u8>, list: &[u16])
     }
 }
 
-// The low byte first.
+// The low byte first. One by one, since a copy of two bytes takes twice as long.
 fn put_word(out: &mut Output<'_, u8>, word: u16)
     ensures { Puts out.old out.new (word_bytes word) }
 {
-    out.put_all(&word.to_le_bytes());
+    let [low, high] = word.to_le_bytes();
+    out.put(low);
+    out.put(high);
 }
 
 fn put_elements(
