@@ -1,7 +1,7 @@
 -- `felica_writing::answer_write` meets its contract: the fields are noted, then written.
 -- Assumes nothing.
-use borrow.Author.Tests.{lt-ltb, le-ltb}
-use mathlib.Core.Path.{ap, ◌∙◌}
+use Rattle.std.proofs.Common.{ap, ◌∙◌}
+use Rattle.std.proofs.lemmas.Bool.{lt-ltb, le-ltb}
 use Rattle.felica_put.specs.Put.{buffer, put}
 use Rattle.felica_named.specs.Names.{names}
 use Rattle.felica_writing.specs.Answer.{write_answer}
