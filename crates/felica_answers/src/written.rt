@@ -5,18 +5,18 @@ ghost use Rattle.felica_write.specs.Writing.{meaning, outcome};
 ghost use Rattle.felica_answers.specs.Written.{bytes_line, written_line};
 
 use crate::lists::front;
+use felica_command::command::Refusal;
 use felica_fields::refusal::put_refusal;
 use felica_put::Output;
 use felica_text::put::{put_decimal, put_hex};
-use felica_write::Written;
 
 // The bytes stand at the front of the buffer that the writer was lent.
-pub fn put_written(out: &mut Output<u8>, written: Written, room: &[u8])
+pub fn put_written(out: &mut Output<u8>, written: Result<usize, Refusal>, room: &[u8])
     ensures { Puts out.old out.new (written_line (outcome (meaning written) room.now)) }
 {
     match written {
-        Written::Length(count) => put_count_and_bytes(out, count, front(room, count)),
-        Written::Refused(refusal) => put_refusal(out, refusal),
+        Ok(count) => put_count_and_bytes(out, count, front(room, count)),
+        Err(refusal) => put_refusal(out, refusal),
     }
 }
 

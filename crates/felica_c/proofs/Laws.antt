@@ -1,8 +1,6 @@
 -- Laws of what a call puts and tells.
 -- Assumes nothing.
-use mathlib.Core.Path.{◌≡◌, refl, sym, ap, ◌∙◌}
-use mathlib.Core.List.{List}
-use Prim.Native.Nat.{ℕ}
+use Rattle.std.proofs.Common.{ℕ, ◌≡◌, refl, sym, ap, ◌∙◌, List, Ok, Err}
 use Rattle.felica_format.specs.Read.{Answer as Reading}
 use Rattle.felica_command.specs.Meaning.{fields_of, answer_is, meaning}
 use Rattle.felica_command.specs.Places.{Places, answer_places, places_of, read_places}
@@ -13,9 +11,8 @@ use Rattle.felica_command.specs.declared.command.Answer.{Answer}
 use Rattle.felica_command.specs.declared.command.Answer.TheVariants.{Command as AnswerCommand, Refused as AnswerRefused}
 use Rattle.felica_command.specs.declared.command.Parsed.{Parsed}
 use Rattle.felica_lists.specs.Lists.{Buffers, Outcome, outcome}
-use Rattle.felica_write.specs.declared.Written.{Written}
-use Rattle.felica_write.specs.declared.Written.TheVariants.{Length, Refused as WrittenRefused}
 use Rattle.felica_write.specs.Writing as writer
+use Rattle.felica_write.specs.Writing.{Written}
 use Rattle.felica_c.specs.declared.answer.FelicaWritten.{FelicaWritten}
 use Rattle.felica_c.specs.Boundary.{Lent, lent, parts_of, Told, told, answer, telling, written_answer}
 use Rattle.felica_c.specs.Fields.{Put, put_fields, tell_answer, tell, unwritten_by}
@@ -44,14 +41,14 @@ list_tells s at o p b m t is placed tells =
     (tells ∙ result_tells s at (meaning s p) p m refl placed ∙ ap (λ (x : Outcome). telling at s x.answer m) is, ap (λ (x : Outcome). x.buffers) is)
 
 -- the writer's result w, told as r
-length_told : (w : Written) (n : ℕ) → w ≡ Length n → record { refusal = 0; length = n } ≡ written_answer (writer.meaning w)
+length_told : (w : Written) (n : ℕ) → w ≡ Ok n → record { refusal = 0; length = n } ≡ written_answer (writer.meaning w)
 length_told w n is = ap (λ (x : Written). written_answer (writer.meaning x)) (sym is)
 
-refusal_told : (why : Refusal) → unwritten_by why ≡ written_answer (writer.meaning (WrittenRefused why))
+refusal_told : (why : Refusal) → unwritten_by why ≡ written_answer (writer.meaning (Err why))
 refusal_told (Number n) = refl
 refusal_told (OfCommand n code) = refl
 
-unwritten_told : (w : Written) (why : Refusal) (r : FelicaWritten) → w ≡ WrittenRefused why → r ≡ unwritten_by why → r ≡ written_answer (writer.meaning w)
+unwritten_told : (w : Written) (why : Refusal) (r : FelicaWritten) → w ≡ Err why → r ≡ unwritten_by why → r ≡ written_answer (writer.meaning w)
 unwritten_told w why r is same = same ∙ refusal_told why ∙ ap (λ (x : Written). written_answer (writer.meaning x)) (sym is)
 
 write_tells : (o : writer.Outcome) (w : Written) (after : List ℕ) (r : FelicaWritten) → writer.outcome (writer.meaning w) after ≡ o
@@ -59,10 +56,10 @@ write_tells : (o : writer.Outcome) (w : Written) (after : List ℕ) (r : FelicaW
 write_tells o w after r is same =
     (same ∙ ap (λ (x : writer.Outcome). written_answer x.answer) is, ap (λ (x : writer.Outcome). x.buffer) is)
 
-pub length_tells : (o : writer.Outcome) (w : Written) (n : ℕ) (after : List ℕ) → writer.outcome (writer.meaning w) after ≡ o → w ≡ Length n
+pub length_tells : (o : writer.Outcome) (w : Written) (n : ℕ) (after : List ℕ) → writer.outcome (writer.meaning w) after ≡ o → w ≡ Ok n
     → (record { refusal = 0; length = n } ≡ written_answer o.answer) × (after ≡ o.buffer)
 length_tells o w n after is wrote = write_tells o w after _ is (length_told w n wrote)
 
 pub refusal_tells : (o : writer.Outcome) (w : Written) (why : Refusal) (r : FelicaWritten) (after : List ℕ) → writer.outcome (writer.meaning w) after ≡ o
-    → w ≡ WrittenRefused why → r ≡ unwritten_by why → (r ≡ written_answer o.answer) × (after ≡ o.buffer)
+    → w ≡ Err why → r ≡ unwritten_by why → (r ≡ written_answer o.answer) × (after ≡ o.buffer)
 refusal_tells o w why r after is refused same = write_tells o w after r is (unwritten_told w why r refused same)

@@ -9,7 +9,8 @@ ghost use Rattle.felica_c.specs.Boundary.{fixed, written_answer};
 use felica_c::answer::FelicaWritten;
 use felica_c::tell::unwritten;
 use felica_command::fixed::Fixed;
-use felica_write::{Written, write};
+use felica_writable::handed::Handed;
+use felica_write::write;
 
 #[unsafe(no_mangle)]
 pub extern "C" fn felica_write(
@@ -32,25 +33,28 @@ pub extern "C" fn felica_write(
 ) -> FelicaWritten
     ensures { (result ≡ written_answer (writing (handed code (fixed idm.now challenge.now selector number index option choice) first.now second.now numbers.now places.now modes.now «data».now «package».now) out.old).answer) × (out.new ≡ (writing (handed code (fixed idm.now challenge.now selector number index option choice) first.now second.now numbers.now places.now modes.now «data».now «package».now) out.old).buffer) }
 {
-    let its_idm = *idm;
-    let its_challenge = *challenge;
     let fixed = Fixed {
-        idm: its_idm,
-        selector: selector,
-        number: number,
-        index: index,
-        option: option,
-        choice: choice,
-        challenge: its_challenge,
+        idm: *idm,
+        selector,
+        number,
+        index,
+        option,
+        choice,
+        challenge: *challenge,
     };
-    let result = write(
-        code, fixed, first, second, numbers, places, modes, data, package, out,
-    );
-    match result {
-        Written::Length(length) => FelicaWritten {
-            refusal: 0,
-            length: length,
-        },
-        Written::Refused(why) => unwritten(why),
+    let command = Handed {
+        code,
+        fixed,
+        first,
+        second,
+        numbers,
+        places,
+        modes,
+        data,
+        package,
+    };
+    match write(command, out) {
+        Ok(length) => FelicaWritten { refusal: 0, length },
+        Err(why) => unwritten(why),
     }
 }

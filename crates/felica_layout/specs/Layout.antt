@@ -1,13 +1,12 @@
 -- The code's layouts as those of felica_format, and the layout that a code has, with its class.
 -- Assumes nothing.
-use Rattle.std.specs.Prelude.{ℕ}
+use Rattle.std.specs.Prelude.{ℕ, Option, None, Some}
 use Rattle.felica_format.specs.declared.classes.Class.{Class}
+use Rattle.felica_format.specs.declared.constants.Bounds.{Bounds}
 use Rattle.felica_format.specs.Layout as format
 use Rattle.felica_format.specs.Layout.{class_of, layout_of}
 use Rattle.felica_layout.specs.declared.Selector.{Selector}
-use Rattle.felica_layout.specs.declared.Selector.TheVariants.{NoSelector, TypeByte, AnyByte}
-use Rattle.felica_layout.specs.declared.Codes.{Codes}
-use Rattle.felica_layout.specs.declared.Codes.TheVariants.{NoCodes, Counted}
+use Rattle.felica_layout.specs.declared.Selector.TheVariants.{TypeByte, AnyByte}
 use Rattle.felica_layout.specs.declared.Ending.{Ending}
 use Rattle.felica_layout.specs.declared.Ending.TheVariants.{Bytes, Word, Words, Reserved, Polling, Parameter}
 use Rattle.felica_layout.specs.declared.Behind.{Behind}
@@ -15,14 +14,14 @@ use Rattle.felica_layout.specs.declared.Behind.TheVariants.{Nothing, IgnoredByte
 use Rattle.felica_layout.specs.declared.Layout.{Layout}
 use Rattle.felica_layout.specs.declared.Row.{Row}
 
-abbrev pub selector_meant : Selector → format.Selector
-selector_meant NoSelector = format.no_selector
-selector_meant TypeByte = format.type_byte
-selector_meant AnyByte = format.any_byte
+abbrev pub selector_meant : Option Selector → format.Selector
+selector_meant None = format.no_selector
+selector_meant (Some TypeByte) = format.type_byte
+selector_meant (Some AnyByte) = format.any_byte
 
-abbrev pub codes_meant : Codes → format.Codes
-codes_meant NoCodes = format.no_codes
-codes_meant (Counted b) = format.◌to◌ b.least b.greatest
+abbrev pub codes_meant : Option Bounds → format.Codes
+codes_meant None = format.no_codes
+codes_meant (Some b) = format.◌to◌ b.least b.greatest
 
 abbrev pub ending_meant : Ending → format.Ending
 ending_meant (Bytes n) = format.bytes n

@@ -1,34 +1,26 @@
 // The layout of each command: one order of parts, each there or not, as specs/Layout.antt of felica_format has it in document 01's words.
-#![tactic(auto)]
+#![tactic(auto, unfolding(crate::specs::Layout::row_of, felica_format::specs::Layout::class_of, felica_format::specs::Layout::layout_of, felica_format::specs::Layout::layout_in, felica_format::specs::Layout::has, felica_format::specs::Layout::plain_rows, felica_format::specs::Layout::secure_rows))]
 
 ghost use Rattle.std.specs.Prelude.{◌≡◌, true, false};
-ghost use Rattle.felica_format.specs.Layout.{layout, no_selector, no_codes, ◌to◌, bytes, bare, nothing, ends, has, plain_rows};
-ghost use Rattle.felica_format.specs.declared.classes.Class.TheVariants.{Plain, Secure, Unknown};
-ghost use Rattle.felica_layout.specs.Layout.{selector_meant, ending_meant, behind_meant, row, row_meant, row_of};
+ghost use Rattle.felica_format.specs.Layout.{layout, no_selector, no_codes, ◌to◌, bytes, bare, nothing, has, plain_rows};
+ghost use Rattle.felica_format.specs.declared.classes.Class.TheVariants.{Plain, Secure};
+ghost use Rattle.felica_layout.specs.Layout.{selector_meant, ending_meant, behind_meant, layout_meant, row, row_meant, row_of};
 
 use felica_format::classes::Class;
 use felica_format::constants;
 use felica_format::constants::{Bounds, NODE_PROPERTY_CODES, SERVICE_CODES};
 
 // The byte in front of a code list.
-#[derive(Clone, Copy)]
+#[derive(Clone, Copy, PartialEq, Eq, Debug)]
 pub enum Selector {
-    NoSelector,
     // 28: 00 or 01.
     TypeByte,
     // 40: any byte.
     AnyByte,
 }
 
-// A list of codes behind its count.
-#[derive(Clone, Copy)]
-pub enum Codes {
-    NoCodes,
-    Counted(Bounds),
-}
-
 // The fixed bytes that end a body.
-#[derive(Clone, Copy)]
+#[derive(Clone, Copy, PartialEq, Eq, Debug)]
 pub enum Ending {
     // So many bytes of the challenge; 0 where there are no fixed bytes.
     Bytes(usize),
@@ -45,7 +37,7 @@ pub enum Ending {
 }
 
 // What may stand behind them.
-#[derive(Clone, Copy)]
+#[derive(Clone, Copy, PartialEq, Eq, Debug)]
 pub enum Behind {
     Nothing,
     // Any bytes, which are no part of the command.
@@ -57,14 +49,27 @@ pub enum Behind {
 #[derive(Clone, Copy)]
 pub struct Layout {
     pub idm: bool,
-    pub selector: Selector,
-    pub first: Codes,
-    pub second: Codes,
+    pub selector: Option<Selector>,
+    // The bounds of how many codes stand behind their count.
+    pub first: Option<Bounds>,
+    pub second: Option<Bounds>,
     pub elements: bool,
     pub block_data: bool,
     pub ending: Ending,
     pub behind: Behind,
 }
+
+// No bytes at all.
+const NO_PARTS: Layout = Layout {
+    idm: false,
+    selector: None,
+    first: None,
+    second: None,
+    elements: false,
+    block_data: false,
+    ending: Ending::Bytes(0),
+    behind: Behind::Nothing,
+};
 
 // The class of a code, and its layout; an unknown code has no bytes.
 #[derive(Clone, Copy)]
@@ -82,11 +87,7 @@ pub fn row_of(code: u8) -> Row
         constants::REQUEST_SERVICE_COMMAND_CODE
         | constants::REQUEST_BLOCK_INFORMATION_COMMAND_CODE
         | constants::REQUEST_BLOCK_INFORMATION_EX_COMMAND_CODE
-        | constants::REQUEST_SERVICE_V2_COMMAND_CODE => coded(
-            Selector::NoSelector,
-            SERVICE_CODES,
-            0,
-        ),
+        | constants::REQUEST_SERVICE_V2_COMMAND_CODE => coded(None, SERVICE_CODES, 0),
         constants::REQUEST_RESPONSE_COMMAND_CODE
         | constants::REQUEST_SYSTEM_CODE_COMMAND_CODE
         | constants::REQUEST_PRODUCT_INFORMATION_COMMAND_CODE => fixed(true, Ending::Bytes(0)),
@@ -103,12 +104,16 @@ pub fn row_of(code: u8) -> Row
         | constants::REQUEST_SPECIFICATION_VERSION_COMMAND_CODE
         | constants::RESET_MODE_COMMAND_CODE => fixed(true, Ending::Reserved),
         constants::GET_NODE_PROPERTY_COMMAND_CODE => coded(
-            Selector::TypeByte,
+            Some(Selector::TypeByte),
             NODE_PROPERTY_CODES,
             0,
         ),
         constants::GET_CONTAINER_PROPERTY_COMMAND_CODE => fixed(false, Ending::Word),
-        constants::AUTHENTICATION1_V2_COMMAND_CODE => coded(Selector::AnyByte, SERVICE_CODES, 16),
+        constants::AUTHENTICATION1_V2_COMMAND_CODE => coded(
+            Some(Selector::AnyByte),
+            SERVICE_CODES,
+            16,
+        ),
         constants::AUTHENTICATION2_V2_COMMAND_CODE => fixed(true, Ending::Bytes(16)),
         constants::GET_CONTAINER_ID_COMMAND_CODE => fixed(false, Ending::Reserved),
         _ => secure_row(code),
@@ -146,7 +151,10 @@ fn secure_row(code: u8) -> Row
             Ending::Bytes(0),
             Behind::Nothing,
         ),
-        _ => unknown_row(),
+        _ => Row {
+            class: Class::Unknown,
+            layout: NO_PARTS,
+        },
     }
 }
 
@@ -154,75 +162,57 @@ fn secure_row(code: u8) -> Row
 fn fixed(idm: bool, ending: Ending) -> Row
     ensures { row_meant result ≡ row Plain (layout idm no_selector no_codes no_codes false false (ending_meant ending) nothing) }
 {
-    Row {
-        class: Class::Plain,
-        layout: Layout {
-            idm: idm,
-            selector: Selector::NoSelector,
-            first: Codes::NoCodes,
-            second: Codes::NoCodes,
-            elements: false,
-            block_data: false,
-            ending: ending,
-            behind: Behind::Nothing,
-        },
-    }
+    plain(Layout {
+        idm,
+        ending,
+        ..NO_PARTS
+    })
 }
 
 // With one code list, and a challenge or none.
-fn coded(selector: Selector, bounds: Bounds, challenge: usize) -> Row
+fn coded(selector: Option<Selector>, bounds: Bounds, challenge: usize) -> Row
     ensures { row_meant result ≡ row Plain (layout true (selector_meant selector) (bounds.least to bounds.greatest) no_codes false false (bytes challenge) nothing) }
 {
-    Row {
-        class: Class::Plain,
-        layout: Layout {
-            idm: true,
-            selector: selector,
-            first: Codes::Counted(bounds),
-            second: Codes::NoCodes,
-            elements: false,
-            block_data: false,
-            ending: Ending::Bytes(challenge),
-            behind: Behind::Nothing,
-        },
-    }
+    plain(Layout {
+        idm: true,
+        selector,
+        first: Some(bounds),
+        ending: Ending::Bytes(challenge),
+        ..NO_PARTS
+    })
 }
 
 // With areas and services.
 fn two_code_lists() -> Row
     ensures { row_meant result ≡ row Plain (layout true no_selector (0 to 32) (0 to 32) false false (bytes 8) nothing) }
 {
-    let bounds = constants::AREA_AND_SERVICE_CODES;
-    Row {
-        class: Class::Plain,
-        layout: Layout {
-            idm: true,
-            selector: Selector::NoSelector,
-            first: Codes::Counted(bounds),
-            second: Codes::Counted(bounds),
-            elements: false,
-            block_data: false,
-            ending: Ending::Bytes(8),
-            behind: Behind::Nothing,
-        },
-    }
+    plain(Layout {
+        idm: true,
+        first: Some(constants::AREA_AND_SERVICE_CODES),
+        second: Some(constants::AREA_AND_SERVICE_CODES),
+        ending: Ending::Bytes(8),
+        ..NO_PARTS
+    })
 }
 
 fn codes_and_blocks(block_data: bool) -> Row
     ensures { row_meant result ≡ row Plain (layout true no_selector (1 to 16) no_codes true block_data bare nothing) }
 {
+    plain(Layout {
+        idm: true,
+        first: Some(constants::RW_SERVICE_CODES),
+        elements: true,
+        block_data,
+        ..NO_PARTS
+    })
+}
+
+fn plain(layout: Layout) -> Row
+    ensures { row_meant result ≡ row Plain (layout_meant layout) }
+{
     Row {
         class: Class::Plain,
-        layout: Layout {
-            idm: true,
-            selector: Selector::NoSelector,
-            first: Codes::Counted(constants::RW_SERVICE_CODES),
-            second: Codes::NoCodes,
-            elements: true,
-            block_data: block_data,
-            ending: Ending::Bytes(0),
-            behind: Behind::Nothing,
-        },
+        layout,
     }
 }
 
@@ -232,32 +222,11 @@ fn payload_row(elements: bool, block_data: bool, ending: Ending, behind: Behind)
     Row {
         class: Class::Secure,
         layout: Layout {
-            idm: false,
-            selector: Selector::NoSelector,
-            first: Codes::NoCodes,
-            second: Codes::NoCodes,
-            elements: elements,
-            block_data: block_data,
-            ending: ending,
-            behind: behind,
-        },
-    }
-}
-
-fn unknown_row() -> Row
-    ensures { row_meant result ≡ row Unknown (ends bare) }
-{
-    Row {
-        class: Class::Unknown,
-        layout: Layout {
-            idm: false,
-            selector: Selector::NoSelector,
-            first: Codes::NoCodes,
-            second: Codes::NoCodes,
-            elements: false,
-            block_data: false,
-            ending: Ending::Bytes(0),
-            behind: Behind::Nothing,
+            elements,
+            block_data,
+            ending,
+            behind,
+            ..NO_PARTS
         },
     }
 }

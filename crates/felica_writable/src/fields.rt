@@ -1,6 +1,6 @@
 // The fixed fields.
 ghost use Rattle.std.specs.Prelude.{◌≡◌, suc, ◌-◌, length, drop};
-ghost use Rattle.felica_format.specs.Basic.{◌and◌, all_below, Bytes, zeros};
+ghost use Rattle.felica_format.specs.Basic.{◌and◌, zeros};
 ghost use Rattle.felica_format.specs.Command.{end_fields};
 ghost use Rattle.felica_format.specs.Writable.{same_list, are_bytes, idm_ok, selector_ok, ranges, ranges_of, end_fields_ok};
 ghost use Rattle.felica_layout.specs.Layout.{selector_meant, ending_meant};
@@ -12,45 +12,24 @@ use felica_layout::{Ending, Selector};
 pub(crate) fn idm_ok(present: bool, idm: [u8; 8]) -> bool
     ensures { result ≡ idm_ok present idm }
 {
-    if present {
-        return true;
-    }
-    zeros_from(&idm, 0)
+    present || all_zero(&idm)
 }
 
-pub(crate) fn selector_ok(selector: Selector, value: u8) -> bool
+pub(crate) fn selector_ok(selector: Option<Selector>, value: u8) -> bool
     ensures { result ≡ selector_ok (selector_meant selector) value }
 {
     match selector {
-        Selector::NoSelector => value == 0,
-        Selector::TypeByte => value <= 1,
-        Selector::AnyByte => true,
+        None => value == 0,
+        Some(Selector::TypeByte) => value <= 1,
+        Some(Selector::AnyByte) => true,
     }
-}
-
-// Whether the bytes from a place on are zeros.
-fn zeros_from(bytes: &[u8], from: usize) -> bool
-    ensures { (result ≡ same_list (drop from bytes.now) (zeros (length bytes.now - from))) × Bytes bytes.now }
-{
-    if bytes.len() < from {
-        return true;
-    }
-    all_zero(&bytes[from..])
 }
 
 // Without an early exit, so that the compiler can test many bytes at once.
 fn all_zero(bytes: &[u8]) -> bool
-    ensures { result ≡ all_below 1 bytes.now }
+    ensures { result ≡ same_list bytes.now (zeros (length bytes.now)) }
 {
-    let mut clear = true;
-    let mut i = 0;
-    while i < bytes.len() {
-        if bytes[i] != 0 {
-            clear = false;
-        }
-        i += 1;
-    }
-    clear
+    bytes.iter().fold(true, |clear, &byte| clear & (byte == 0))
 }
 
 fn challenge_ok(challenge: [u8; 16], filled: usize) -> bool
@@ -58,13 +37,13 @@ fn challenge_ok(challenge: [u8; 16], filled: usize) -> bool
 {
     // Most commands have none of it: apart, so that the compiler knows how many bytes to test.
     if filled == 0 {
-        return zeros_from(&challenge, 0);
+        return all_zero(&challenge);
     }
-    zeros_from(&challenge, filled)
+    all_zero(&challenge[filled.min(challenge.len())..])
 }
 
 // The greatest values of the fields that end a body, and how many bytes of the challenge it has. What it lacks is 0.
-#[derive(Clone, Copy)]
+#[derive(Clone, Copy, Default)]
 struct Greatest {
     number: u16,
     index: u16,
@@ -75,24 +54,25 @@ struct Greatest {
 fn greatest_of(ending: Ending) -> Greatest
     ensures { ranges (suc result.number) (suc result.index) (suc result.option) (ranges_of (ending_meant ending)).choices result.challenge ≡ ranges_of (ending_meant ending) }
 {
+    let none = Greatest::default();
     match ending {
-        Ending::Bytes(count) => greatest_values(0, 0, 0, count),
-        Ending::Word => greatest_values(u16::MAX, 0, 0, 0),
-        Ending::Words => greatest_values(u16::MAX, u16::MAX, 0, 0),
-        Ending::Reserved => greatest_values(0, 0, 0, 0),
-        Ending::Polling => greatest_values(u16::MAX, 0, 2, 0),
-        Ending::Parameter => greatest_values(0, 0, 1, 0),
-    }
-}
-
-fn greatest_values(number: u16, index: u16, option: u8, challenge: usize) -> Greatest
-    ensures { result ≡ record { number = number; index = index; option = option; challenge = challenge } }
-{
-    Greatest {
-        number: number,
-        index: index,
-        option: option,
-        challenge: challenge,
+        Ending::Bytes(challenge) => Greatest { challenge, ..none },
+        Ending::Word => Greatest {
+            number: u16::MAX,
+            ..none
+        },
+        Ending::Words => Greatest {
+            number: u16::MAX,
+            index: u16::MAX,
+            ..none
+        },
+        Ending::Reserved => none,
+        Ending::Polling => Greatest {
+            number: u16::MAX,
+            option: 2,
+            ..none
+        },
+        Ending::Parameter => Greatest { option: 1, ..none },
     }
 }
 
@@ -103,10 +83,7 @@ fn choice_ok(ending: Ending, choice: u8) -> bool
     match ending {
         Ending::Polling => is_polling_time_slot(choice),
         Ending::Parameter => choice <= 1,
-        Ending::Bytes(_) => choice == 0,
-        Ending::Word => choice == 0,
-        Ending::Words => choice == 0,
-        Ending::Reserved => choice == 0,
+        Ending::Bytes(_) | Ending::Word | Ending::Words | Ending::Reserved => choice == 0,
     }
 }
 
@@ -114,18 +91,9 @@ pub(crate) fn end_fields_ok(ending: Ending, fixed: Fixed) -> bool
     ensures { result ≡ end_fields_ok (ranges_of (ending_meant ending)) (end_fields fixed.number fixed.index fixed.option fixed.choice fixed.challenge) }
 {
     let most = greatest_of(ending);
-    let challenge = fixed.challenge;
-    if most.number < fixed.number {
-        return false;
-    }
-    if most.index < fixed.index {
-        return false;
-    }
-    if most.option < fixed.option {
-        return false;
-    }
-    if !choice_ok(ending, fixed.choice) {
-        return false;
-    }
-    challenge_ok(challenge, most.challenge)
+    fixed.number <= most.number
+        && fixed.index <= most.index
+        && fixed.option <= most.option
+        && choice_ok(ending, fixed.choice)
+        && challenge_ok(fixed.challenge, most.challenge)
 }

@@ -1,19 +1,18 @@
 -- The elements of three lists, entry by entry.
 -- Assumes nothing.
-use Prim.Native.Nat.{ℕ, zero, suc, ◌+◌, ◌*◌, ◌≤◌, ◌<◌}
-use native.Mathlib.Omega.{arith}
-use mathlib.Core.Path.{◌≡◌, refl, ap, ◌∙◌}
-use mathlib.Core.Bool.{Bool, true, false, cond}
-use mathlib.Core.List.{List, [], ◌∷◌, ◌++◌}
-use lib.ListN.{length, get_or, drop, length-append, drop_of_length-le}
-use lib.Seq.{get_or-drop}
-use lib.Dec.{ltb}
-use borrow.Author.Tests.{ltb-true, lt-ltb, le-ltb}
+use Rattle.std.proofs.Common.{ℕ, zero, suc, ◌+◌, ◌*◌, ◌≤◌, ◌<◌, ◌≡◌, refl, sym, ap, ◌∙◌, Bool, true, false, cond, List, [], ◌∷◌, ◌++◌, arith}
+use Rattle.std.proofs.Common.{ltb, length, get_or, take, drop, append_assoc, append-nil, length-append, add-one}
+use Rattle.std.proofs.Math.Seq.{get_or-drop}
+use Rattle.std.proofs.lemmas.Bool.{ltb-true, lt-ltb, le-ltb}
+use Rattle.std.proofs.lemmas.List.{take_all}
+use Rattle.std.proofs.lemmas.List.Sums.{sum_by-cons}
 use Rattle.felica_format.specs.Basic.{◌and◌, all_below}
 use Rattle.felica_format.specs.Command.{Element, zip_elements}
 use Rattle.felica_format.specs.Write.{short_bytes, long_bytes, element_bytes, each_bytes, elements_bytes}
 use Rattle.felica_format.proofs.Tests.{and_left, and_right}
-use Rattle.felica_put.proofs.Laws.{drop_next}
+use Rattle.felica_put.specs.Output.{Puts}
+use Rattle.felica_put.specs.declared.Output.{Output}
+use Rattle.felica_put.proofs.Laws.{puts_then}
 use Rattle.felica_writable.proofs.Laws.{zip_length}
 use Rattle.felica_write.specs.Size.{short_size}
 use Rattle.felica_write.specs.Body.{element}
@@ -52,32 +51,37 @@ element_length e = go (ltb e.number 256)
     go false = refl
 
 pub each_length : (ns ps ms : List ℕ) → length (each_bytes [] (zip_elements ns ps ms)) ≡ short_size ns
-unfolding zip_elements each_bytes short_size
+unfolding zip_elements each_bytes
 each_length [] ps ms = refl
 each_length (n ∷ ns) ps ms =
     length-append (element_bytes false (element n (get_or ps 0 0) (get_or ms 0 0))) _
-    ∙ rw (element_length (element n (get_or ps 0 0) (get_or ms 0 0)), each_length ns (drop 1 ps) (drop 1 ms)) refl
+    ∙ rw (element_length (element n (get_or ps 0 0) (get_or ms 0 0)), each_length ns (drop 1 ps) (drop 1 ms)) (sym (sum_by-cons (λ k. cond (ltb k 256) 2 3) n ns))
 
--- the size of a list of block numbers, entry by entry
 pub size_bound : (ns : List ℕ) → short_size ns ≤ 3 * length ns
-unfolding short_size
 size_bound [] = omega arith
-size_bound (n ∷ ns) = go (ltb n 256) (size_bound ns)
+size_bound (n ∷ ns) = rw (sum_by-cons (λ k. cond (ltb k 256) 2 3) n ns) (go (ltb n 256) (size_bound ns))
   where
     go : (b : Bool) → short_size ns ≤ 3 * length ns → cond b 2 3 + short_size ns ≤ 3 * suc (length ns)
     go true h = omega arith
     go false h = omega arith
-
-pub size_next : (ns : List ℕ) (i : ℕ) → i < length ns → short_size (drop i ns) ≡ cond (ltb (get_or ns i 0) 256) 2 3 + short_size (drop (i + 1) ns)
-unfolding short_size
-size_next ns i h = ap short_size (drop_next ns i 0 h)
-
-pub size_done : (ns : List ℕ) (i : ℕ) → length ns ≤ i → short_size (drop i ns) ≡ 0
-unfolding short_size
-size_done ns i h = ap short_size (drop_of_length-le ns h)
 
 -- the count in front
 pub counted : (there : Bool) (ns ps ms : List ℕ) → there ≡ true
     → (length ns ∷ []) ++ each_bytes [] (zip_elements ns ps ms) ≡ elements_bytes there [] (zip_elements ns ps ms)
 unfolding elements_bytes
 counted there ns ps ms e = rw (e, zip_length ns ps ms)
+
+-- A turn of a loop that puts f of a list, entry by entry: g is what an entry puts.
+module _ {A B : Type 0} (f : List A → List B) (g : A → List B) (none : f [] ≡ []) (cons : (x : A) (xs : List A) → f (x ∷ xs) ≡ g x ++ f xs) where
+  one_more : (s : List A) (i : ℕ) (d : A) → i < length s → f (take (suc i) s) ≡ f (take i s) ++ g (get_or s i d)
+  one_more [] i d h = absurd (omega arith)
+  one_more (x ∷ xs) zero d h = cons x [] ∙ rw (none, append-nil (g x)) refl
+  one_more (x ∷ xs) (suc i) d h =
+      cons x (take (suc i) xs) ∙ ap (λ t. g x ++ t) (one_more xs i d (omega arith)) ∙ sym (append_assoc (g x) (f (take i xs)) (g (get_or xs i d)))
+      ∙ ap (λ t. t ++ g (get_or xs i d)) (sym (cons x (take i xs)))
+
+  pub puts_more : (s : List A) (i : ℕ) (d : A) {a b c : Output B} → i < length s → Puts a b (f (take i s)) → Puts b c (g (get_or s i d)) → Puts a c (f (take (i + 1) s))
+  puts_more s i d h so_far turn = rw (add-one, one_more s i d h) (puts_then so_far turn)
+
+pub puts_whole : {A B : Type 0} (f : List A → List B) (s : List A) (n : ℕ) {a b : Output B} → length s ≤ n → Puts a b (f (take n s)) → Puts a b (f s)
+puts_whole f s n h so_far = rw (sym (take_all n s h)) so_far

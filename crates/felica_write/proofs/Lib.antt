@@ -1,4 +1,5 @@
 pub mod Elements
+pub mod Parts
 pub mod Ready
 pub mod Outcome
 pub mod Rules

@@ -1,15 +1,9 @@
 -- The outcome of a call, case by case, for the layout that was found.
 -- Assumes nothing.
-use Prim.Native.Nat.{ℕ, suc, ◌+◌, ◌≤◌, ◌<◌}
-use native.Mathlib.Omega.{arith}
-use mathlib.Core.Path.{◌≡◌, refl, sym, ap, ◌∙◌, subst}
-use mathlib.Core.Logic.{◌⊎◌, inl, inr, ⊎_elim}
-use mathlib.Core.Bool.{Bool, true, false, cond}
-use mathlib.Core.List.{List, [], ◌∷◌, ◌++◌}
-use mathlib.Core.Option.{some}
-use lib.ListN.{length}
-use lib.Dec.{ltb}
-use borrow.Author.Tests.{lt-ltb, le-ltb, le-leb, lt-leb, ltb-true, ltb-false}
+use Rattle.std.proofs.Common.{ℕ, suc, ◌+◌, ◌≤◌, ◌<◌, ◌≡◌, refl, sym, ap, ◌∙◌, subst, ◌⊎◌, inl, inr, Bool, true, false, cond, List, [], ◌∷◌, ◌++◌, arith}
+use Rattle.std.proofs.Common.{length, ltb, Ok, Err, is_ok}
+use Rattle.std.proofs.Math.Option.{some}
+use Rattle.std.proofs.lemmas.Bool.{lt-ltb, le-ltb, le-leb, lt-leb, ltb-true, ltb-false}
 use Rattle.felica_format.specs.declared.classes.Class.{Class}
 use Rattle.felica_format.specs.declared.classes.Class.TheVariants.{Plain, Secure, Unknown}
 use Rattle.felica_format.specs.Command.{Command}
@@ -22,11 +16,10 @@ use Rattle.felica_layout.specs.Layout.{row, row_of}
 use Rattle.felica_put.specs.Put.{buffer, put}
 use Rattle.felica_put.proofs.Laws.{put_front}
 use Rattle.felica_writable.proofs.Laws.{stop, pass}
-use Rattle.felica_write.specs.Size.{Few, front_size}
+use Rattle.felica_write.specs.Size.{front_size}
 use Rattle.felica_write.specs.Body.{Ready}
-use Rattle.felica_write.specs.Head.{head_bytes, frame_room, payload_room, room_for}
-use Rattle.felica_write.specs.declared.head.Room.TheVariants.{Enough, Refused}
-use Rattle.felica_write.specs.Writing.{wrote, refused, outcome, writing}
+use Rattle.felica_write.specs.Head.{Room, head_bytes, frame_room, payload_room, room_for}
+use Rattle.felica_write.specs.Writing.{wrote, refused, Written, meaning, refusal, outcome, writing}
 use Rattle.felica_write.proofs.Ready.{ready, body_length}
 
 -- the three outcomes
@@ -46,29 +39,15 @@ module _ (c : Command) (out : List ℕ) where
         let front = e ∙ put_front s out h in
         rw (ok, is, le-ltb (length out) (length s) h, ap (λ b. b.bytes) front, ap (λ b. b.next) front)
 
--- so few entries that no sum of sizes overflows
-pub few : (l : Layout) (c : Command) → Ready l c → Few l (length c.first) (length c.second) (length c.numbers) (length c.block_data)
-few l c r =
-    record { first_few = r.few_first; second_few = r.few_second; blocks_few = r.few_blocks; data_few = r.few_data; ending_few = r.few_fixed }
-
 -- what the tests of the room say
-enough_tests : (a b : Bool) → cond a (Refused 22) (cond b (Refused 21) Enough) ≡ Enough → (a ≡ false) × (b ≡ false)
+enough_tests : (a b : Bool) → cond {A = Room} a (Err 22) (cond b (Err 21) (Ok tt)) ≡ Ok tt → (a ≡ false) × (b ≡ false)
 enough_tests true b r = (cc, cc)
 enough_tests false true r = (refl, cc)
 enough_tests false false r = (refl, refl)
 
-enough_test : (b : Bool) → cond b (Refused 21) Enough ≡ Enough → b ≡ false
+enough_test : (b : Bool) → cond {A = Room} b (Err 21) (Ok tt) ≡ Ok tt → b ≡ false
 enough_test true r = cc
 enough_test false r = refl
-
-not_enough : {g : ℕ} → Refused g ≡ Enough → ⊥
-not_enough r = let z : ◌≡◌ {A = ℕ} 0 1 = cc in omega arith
-
-not_refused : {g : ℕ} → Enough ≡ Refused g → ⊥
-not_refused r = let z : ◌≡◌ {A = ℕ} 0 1 = cc in omega arith
-
-not_plain : Secure ≡ Plain → ⊥
-not_plain r = let z : ◌≡◌ {A = ℕ} 0 1 = cc in omega arith
 
 -- the row of the code handed in
 module _ (c : Command) (k : Class) (l : Layout) (found : row k l ≡ row_of c.code) where
@@ -80,8 +59,11 @@ module _ (c : Command) (k : Class) (l : Layout) (found : row k l ≡ row_of c.co
   unfolding row_of
   layout_is = ap (λ r. r.layout) found
 
-  pub narrow : Narrow l
+  narrow : Narrow l
   narrow = subst Narrow (sym layout_is) (every_layout c.code)
+
+  pub may_be_put : body_ok l c ≡ true → Ready l c
+  may_be_put = ready l c narrow
 
   frame_is : frame_of [] c ≡ suc (suc (length (body_bytes l [] c))) ∷ c.code ∷ body_bytes l [] c
   unfolding frame_of
@@ -113,34 +95,34 @@ module _ (c : Command) (k : Class) (l : Layout) (found : row k l ≡ row_of c.co
       Ground : Class → ℕ → Type 0
       Ground j g = ((g ≡ 22) × (fits_class j c ≡ false)) ⊎ ((g ≡ 21) × (fits_class j c ≡ true) × (length out < length (shortest j c)))
 
-      frame_ground : (g : ℕ) → k ≡ Plain → frame_room size (length out) ≡ Refused g → Ground Plain g
+      frame_ground : (g : ℕ) → k ≡ Plain → frame_room size (length out) ≡ Err g → Ground Plain g
       unfolding Ground
       frame_ground g e r = go (ltb 255 (2 + size)) (ltb (length out) (2 + size)) refl refl r
         where
-          go : (a b : Bool) → ltb 255 (2 + size) ≡ a → ltb (length out) (2 + size) ≡ b → cond a (Refused 22) (cond b (Refused 21) Enough) ≡ Refused g
+          go : (a b : Bool) → ltb 255 (2 + size) ≡ a → ltb (length out) (2 + size) ≡ b → cond {A = Room} a (Err 22) (cond b (Err 21) (Ok tt)) ≡ Err g
               → ((g ≡ 22) × (fits_class Plain c ≡ false)) ⊎ ((g ≡ 21) × (fits_class Plain c ≡ true) × (length out < length (shortest Plain c)))
           go true b long small r = inl (cc, rw (frame_is, plain_whole e) (lt-leb (2 + size) 255 (ltb-true 255 (2 + size) long)))
           go false true long small r =
               inr
               (cc, rw (frame_is, plain_whole e) (le-leb (2 + size) 255 (ltb-false 255 (2 + size) long)), rw (frame_is, plain_whole e) (ltb-true (length out) (2 + size) small))
-          go false false long small r = absurd (not_refused r)
+          go false false long small r = cc
 
-      payload_ground : (g : ℕ) → payload_room size (length c.issue_package) (length out) ≡ Refused g → Ground Secure g
+      payload_ground : (g : ℕ) → payload_room size (length c.issue_package) (length out) ≡ Err g → Ground Secure g
       unfolding Ground
       payload_ground g r = go (ltb (length out) (size + length c.issue_package)) refl r
         where
-          go : (b : Bool) → ltb (length out) (size + length c.issue_package) ≡ b → cond b (Refused 21) Enough ≡ Refused g
+          go : (b : Bool) → ltb (length out) (size + length c.issue_package) ≡ b → cond {A = Room} b (Err 21) (Ok tt) ≡ Err g
               → ((g ≡ 22) × (fits_class Secure c ≡ false)) ⊎ ((g ≡ 21) × (fits_class Secure c ≡ true) × (length out < length (shortest Secure c)))
           go true small r = inr (cc, refl, rw (payload_is, sym whole) (ltb-true _ _ small))
-          go false small r = absurd (not_refused r)
+          go false small r = cc
 
-      ground : (j : Class) (g : ℕ) → k ≡ j → room_for j size (length c.issue_package) (length out) ≡ Refused g → Ground j g
+      ground : (j : Class) (g : ℕ) → k ≡ j → room_for j size (length c.issue_package) (length out) ≡ Err g → Ground j g
       unfolding Ground
       ground Plain g e r = frame_ground g e r
       ground Secure g e r = payload_ground g r
       ground Unknown g e r = inl (cc, refl)
 
-      enough : (j : Class) → k ≡ j → room_for j size (length c.issue_package) (length out) ≡ Enough
+      enough : (j : Class) → k ≡ j → room_for j size (length c.issue_package) (length out) ≡ Ok tt
           → (fits_class j c ≡ true) × (length (shortest j c) ≤ length out) × (shortest j c ≡ head_bytes j c.code size ++ body_bytes l [] c)
       enough Plain e r =
           let tests = enough_tests (ltb 255 (2 + size)) (ltb (length out) (2 + size)) r in
@@ -149,15 +131,15 @@ module _ (c : Command) (k : Class) (l : Layout) (found : row k l ≡ row_of c.co
       enough Secure e r =
           let room = ltb-false (length out) (size + length c.issue_package) (enough_test (ltb (length out) (size + length c.issue_package)) r) in
           rw payload_is (refl, omega (arith, whole, room), refl)
-      enough Unknown e r = absurd (not_enough r)
+      enough Unknown e r = cc
 
       may : (b : Bool) → fits_class k c ≡ b → writable c ≡ b
       unfolding writable
       may b e = sym (pass _ _ (ap (λ (m : Layout). body_ok m c) (sym layout_is) ∙ ok)) ∙ ap (λ (j : Class). fits_class j c) (sym class_is) ∙ e
 
-      pub no_room : (g : ℕ) → room_for k size (length c.issue_package) (length out) ≡ Refused g → outcome (refused g (some c.code)) out ≡ writing c out
+      no_room : (g : ℕ) → room_for k size (length c.issue_package) (length out) ≡ Err g → outcome (refused g (some c.code)) out ≡ writing c out
       unfolding Ground
-      no_room g r = ⊎_elim does_not_fit too_small (ground k g refl r)
+      no_room g r = elim (ground k g refl r) [ inl h ↦ does_not_fit h | inr h ↦ too_small h ]
         where
           does_not_fit : (g ≡ 22) × (fits_class k c ≡ false) → outcome (refused g (some c.code)) out ≡ writing c out
           does_not_fit h = rw h.0 (unwritten c out (may false h.1))
@@ -165,14 +147,14 @@ module _ (c : Command) (k : Class) (l : Layout) (found : row k l ≡ row_of c.co
           too_small : (g ≡ 21) × (fits_class k c ≡ true) × (length out < length (shortest k c)) → outcome (refused g (some c.code)) out ≡ writing c out
           too_small h = rw h.0 (buffer_small c out (shortest k c) (may true h.1) (ap (λ (j : Class). shortest j c) (sym class_is)) h.2)
 
-      pub all_stored : room_for k size (length c.issue_package) (length out) ≡ Enough → (after : List ℕ) (n : ℕ)
+      -- the same of a result that has the number of the refusal
+      pub not_stored : (r : Room) → room_for k size (length c.issue_package) (length out) ≡ r → is_ok r ≡ false → {w : Written}
+          → ((g : ℕ) → r ≡ Err g → w ≡ refusal g c.code) → outcome (meaning w) out ≡ writing c out
+      not_stored (Ok tt) e fails tells = cc
+      not_stored (Err g) e fails tells = rw (tells g refl) (no_room g e)
+
+      pub all_stored : room_for k size (length c.issue_package) (length out) ≡ Ok tt → (after : List ℕ) (n : ℕ)
           → buffer after n ≡ put (buffer out 0) (head_bytes k c.code size ++ body_bytes l [] c) → outcome (wrote n) after ≡ writing c out
       all_stored r after n e =
           let h = enough k refl r in
           stored_whole c out (shortest k c) (may true h.0) (ap (λ (j : Class). shortest j c) (sym class_is)) after n h.1 (e ∙ ap (put (buffer out 0)) (sym h.2))
-
--- the length byte of a frame that there is room for
-pub one_byte : (k : Class) (size pack room : ℕ) → room_for k size pack room ≡ Enough → k ≡ Plain → 2 + size ≤ 255
-one_byte Plain size pack room r e = ltb-false 255 (2 + size) (enough_tests (ltb 255 (2 + size)) (ltb room (2 + size)) r).0
-one_byte Secure size pack room r e = absurd (not_plain e)
-one_byte Unknown size pack room r e = absurd (not_enough r)

@@ -1,16 +1,10 @@
 -- The rules of the writer and of reading back, from the contracts of the writer and the parser and the theorems of felica_format.
 -- Assumes nothing.
-use Prim.Native.Nat.{ℕ, ◌≤◌, ◌<◌}
-use native.Mathlib.Omega.{arith}
-use mathlib.Core.Path.{◌≡◌, refl, sym, ap, ◌∙◌, subst}
-use mathlib.Core.Logic.{◌⊎◌, inl, inr, ◌↔◌}
-use mathlib.Core.Bool.{Bool, true, false}
-use mathlib.Core.List.{List, [], ◌++◌}
-use mathlib.Core.Option.{Option, none, some}
-use lib.ListN.{length, take, drop}
-use lib.Seq.{take-append_seam, drop-append_seam}
-use lib.Dec.{ltb}
-use borrow.Author.Tests.{ltb-true, ltb-false, lt-ltb, le-ltb}
+use Rattle.std.proofs.Common.{ℕ, ◌≤◌, ◌<◌, ◌≡◌, refl, sym, ap, ◌∙◌, subst, ◌⊎◌, inl, inr, ◌↔◌, Bool, true, false, List, [], ◌++◌, length, take, drop, arith, Ok, Err}
+use Rattle.std.proofs.Math.Option.{Option, none, some}
+use Rattle.std.proofs.Math.Seq.{take-append_seam, drop-append_seam}
+use Rattle.std.proofs.Math.Dec.{ltb}
+use Rattle.std.proofs.lemmas.Bool.{ltb-true, ltb-false, lt-ltb, le-ltb}
 use Rattle.felica_format.specs.Basic.{◌and◌, Bytes}
 use Rattle.felica_format.specs.Command.{Command}
 use Rattle.felica_format.specs.Layout.{layout_of, layout_in, has, plain_rows}
@@ -28,9 +22,7 @@ use Rattle.felica_command.specs.declared.command.Refusal.TheVariants.{Number, Of
 use Rattle.felica_command.specs.declared.command.Answer.{Answer as Parsing}
 use Rattle.felica_command.specs.declared.command.Answer.TheVariants.{Command as AnswerCommand, Refused as AnswerRefused}
 use Rattle.felica_command.specs.declared.command.Parsed.{Parsed}
-use Rattle.felica_write.specs.declared.Written.{Written}
-use Rattle.felica_write.specs.declared.Written.TheVariants.{Length, Refused}
-use Rattle.felica_write.specs.Writing.{wrote, refused, meaning, refusal, outcome, stored, store, writing}
+use Rattle.felica_write.specs.Writing.{wrote, refused, Written, meaning, refusal, outcome, stored, store, writing}
 use Rattle.felica_write.specs.Rules.{WriterAccount, FrameParsed, PayloadParsed, FrameIs, PayloadIs, OneWriterAccount, RefusedUntouched}
 use Rattle.felica_write.specs.Rules.{TwentyOneExactly, TwentyTwoExactly, BehindKept, WrittenFrameRead, WrittenPayloadRead, ShortestFrame}
 use Rattle.felica_write.specs.Rules.{TwoRefusals, FrameTwentyOne, PayloadTwentyOne, UnwritableUnread}
@@ -39,15 +31,15 @@ use Rattle.felica_write.specs.Rules.{FrameLongTold, PayloadLongTold}
 
 -- a result is settled by what it says
 meaning_one : (r t : Written) → meaning r ≡ meaning t → r ≡ t
-meaning_one (Length n) (Length m) e = cc
-meaning_one (Length n) (Refused (Number m)) e = cc
-meaning_one (Length n) (Refused (OfCommand m k)) e = cc
-meaning_one (Refused (Number n)) (Length m) e = cc
-meaning_one (Refused (Number n)) (Refused (Number m)) e = cc
-meaning_one (Refused (Number n)) (Refused (OfCommand m k)) e = cc
-meaning_one (Refused (OfCommand n j)) (Length m) e = cc
-meaning_one (Refused (OfCommand n j)) (Refused (Number m)) e = cc
-meaning_one (Refused (OfCommand n j)) (Refused (OfCommand m k)) e = cc
+meaning_one (Ok n) (Ok m) e = cc
+meaning_one (Ok n) (Err (Number m)) e = cc
+meaning_one (Ok n) (Err (OfCommand m k)) e = cc
+meaning_one (Err (Number n)) (Ok m) e = cc
+meaning_one (Err (Number n)) (Err (Number m)) e = cc
+meaning_one (Err (Number n)) (Err (OfCommand m k)) e = cc
+meaning_one (Err (OfCommand n j)) (Ok m) e = cc
+meaning_one (Err (OfCommand n j)) (Err (Number m)) e = cc
+meaning_one (Err (OfCommand n j)) (Err (OfCommand m k)) e = cc
 
 pub one_writer_account : OneWriterAccount
 one_writer_account c b r t a e p q =
@@ -62,9 +54,9 @@ record Stored (c : Command) (b : List ℕ) (n : ℕ) (a : List ℕ) : Type 0 whe
   held : a ≡ bytes ++ drop (length bytes) b
 
 wrote_not : {n m : ℕ} {k : Option ℕ} → wrote n ≡ refused m k → ⊥
-wrote_not e = let z : ◌≡◌ {A = ℕ} 0 1 = cc in omega arith
+wrote_not e = cc
 
-stored_of : (c : Command) (b : List ℕ) (n : ℕ) (a : List ℕ) → WriterAccount c b (Length n) a → Stored c b n a
+stored_of : (c : Command) (b : List ℕ) (n : ℕ) (a : List ℕ) → WriterAccount c b (Ok n) a → Stored c b n a
 unfolding writing
 stored_of c b n a e = go (written c) refl e
   where
@@ -103,7 +95,7 @@ two_refusals c b r a n code e said = go (written c) (sym said ∙ ap (λ o. o.an
     go (some s) answer = fit s (ltb (length b) (length s)) answer
 
 not_both : {j k : Option ℕ} → refused 21 j ≡ refused 22 k → ⊥
-not_both e = let z : ◌≡◌ {A = ℕ} 21 22 = cc in omega arith
+not_both e = cc
 
 pub twenty_one_exactly : TwentyOneExactly
 unfolding writing
@@ -201,11 +193,11 @@ written_payload_read c b n a p secure e parsed =
 
 -- with room for it, the writer writes the bytes of the definition
 written_whole : (c : Command) (s b : List ℕ) (r : Written) (a : List ℕ) → written c ≡ some s → length s ≤ length b → WriterAccount c b r a
-    → (r ≡ Length (length s)) × (a ≡ s ++ drop (length s) b)
+    → (r ≡ Ok (length s)) × (a ≡ s ++ drop (length s) b)
 unfolding writing
 written_whole c s b r a w room e =
     let is = e ∙ ap (λ x. store c.code x b) w ∙ ap (λ (t : Bool). stored t c.code s b) (le-ltb (length b) (length s) room) in
-    (meaning_one r (Length (length s)) (ap (λ o. o.answer) is), ap (λ o. o.buffer) is)
+    (meaning_one r (Ok (length s)) (ap (λ o. o.answer) is), ap (λ o. o.buffer) is)
 
 pub shortest_frame : ShortestFrame
 shortest_frame c s p b r a small parsed given room e =

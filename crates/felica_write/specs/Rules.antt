@@ -1,7 +1,7 @@
 -- What follows from the contracts of the writer and the parser, in the words of document 01 and of the three demands, as statements. Each is proved under its
 -- name in proofs/Rules.antt.
 -- Assumes nothing.
-use Rattle.std.specs.Prelude.{ℕ, ◌≤◌, ◌<◌, ◌≡◌, ◌⊎◌, ◌≢◌, ◌↔◌, List, [], ◌∷◌, ◌++◌, length, take, drop}
+use Rattle.std.specs.Prelude.{ℕ, ◌≤◌, ◌<◌, ◌≡◌, ◌⊎◌, ◌≢◌, ◌↔◌, List, [], ◌∷◌, ◌++◌, length, take, drop, Ok}
 use Rattle.std.proofs.Math.Option.{Option, some}
 use Rattle.felica_format.specs.declared.classes.Class.TheVariants.{Plain, Secure}
 use Rattle.felica_format.specs.Basic.{Bytes, zeros}
@@ -14,9 +14,7 @@ use Rattle.felica_format.specs.Demand3.{HasFrame, HasPayload, FrameChoice, Paylo
 use Rattle.felica_command.specs.Meaning as parser
 use Rattle.felica_command.specs.Places.{Account}
 use Rattle.felica_command.specs.declared.command.Parsed.{Parsed}
-use Rattle.felica_write.specs.declared.Written.{Written}
-use Rattle.felica_write.specs.declared.Written.TheVariants.{Length}
-use Rattle.felica_write.specs.Writing.{refused, meaning, refusal, outcome, writing}
+use Rattle.felica_write.specs.Writing.{refused, Written, meaning, refusal, outcome, writing}
 
 -- The contract of the writer: it was handed c, the buffer held b, the result is r, and then the buffer holds a.
 abbrev pub WriterAccount : Command → List ℕ → Written → List ℕ → Type 0
@@ -81,17 +79,17 @@ UnwritableUnread =
 
 -- "bytes behind keep their values"
 abbrev pub BehindKept : Type 0
-BehindKept = (c : Command) (b : List ℕ) (n : ℕ) (a : List ℕ) → WriterAccount c b (Length n) a → (n ≤ length b) × (drop n a ≡ drop n b)
+BehindKept = (c : Command) (b : List ℕ) (n : ℕ) (a : List ℕ) → WriterAccount c b (Ok n) a → (n ≤ length b) × (drop n a ≡ drop n b)
 
 -- "What the writer writes, the parser reads as the command given."
 abbrev pub WrittenFrameRead : Type 0
 WrittenFrameRead =
-    (c : Command) (b : List ℕ) (n : ℕ) (a : List ℕ) (p : Parsed) → class_of c.code ≡ Plain → WriterAccount c b (Length n) a
+    (c : Command) (b : List ℕ) (n : ℕ) (a : List ℕ) (p : Parsed) → class_of c.code ≡ Plain → WriterAccount c b (Ok n) a
     → FrameParsed (take n a) p → FrameIs (take n a) p c
 
 abbrev pub WrittenPayloadRead : Type 0
 WrittenPayloadRead =
-    (c : Command) (b : List ℕ) (n : ℕ) (a : List ℕ) (p : Parsed) → class_of c.code ≡ Secure → WriterAccount c b (Length n) a
+    (c : Command) (b : List ℕ) (n : ℕ) (a : List ℕ) (p : Parsed) → class_of c.code ≡ Secure → WriterAccount c b (Ok n) a
     → PayloadParsed c.code (take n a) p → PayloadIs (take n a) p c
 
 -- "the all-short one is among them, every other has more bytes, and the writer writes it byte for byte": where the parser reads c in a frame s, the writer
@@ -100,7 +98,7 @@ abbrev pub ShortestFrame : Type 0
 ShortestFrame =
     (c : Command) (s : List ℕ) (p : Parsed) (b : List ℕ) (r : Written) (a : List ℕ) → Bytes s → FrameParsed s p → FrameIs s p c
     → length (frame_of [] c) ≤ length b → WriterAccount c b r a
-    → (r ≡ Length (length (frame_of [] c))) × (a ≡ frame_of [] c ++ drop (length (frame_of [] c)) b)
+    → (r ≡ Ok (length (frame_of [] c))) × (a ≡ frame_of [] c ++ drop (length (frame_of [] c)) b)
     × ((q : Parsed) → FrameParsed (frame_of [] c) q → FrameIs (frame_of [] c) q c)
     × (s ≢ frame_of [] c → length (frame_of [] c) < length s)
 
@@ -108,7 +106,7 @@ abbrev pub ShortestPayload : Type 0
 ShortestPayload =
     (c : Command) (code : ℕ) (s : List ℕ) (p : Parsed) (b : List ℕ) (r : Written) (a : List ℕ) → Bytes s → PayloadParsed code s p → PayloadIs s p c
     → length (secure_of [] c) ≤ length b → WriterAccount c b r a
-    → (r ≡ Length (length (secure_of [] c))) × (a ≡ secure_of [] c ++ drop (length (secure_of [] c)) b)
+    → (r ≡ Ok (length (secure_of [] c))) × (a ≡ secure_of [] c ++ drop (length (secure_of [] c)) b)
     × ((q : Parsed) → PayloadParsed c.code (secure_of [] c) q → PayloadIs (secure_of [] c) q c)
     × (s ≢ secure_of [] c → length (secure_of [] c) < length s)
 

@@ -1,26 +1,28 @@
 -- The writer: what it answers, and what the lent buffer holds then.
 -- Assumes nothing.
-use Rattle.std.specs.Prelude.{ℕ, Bool, true, false, List, ◌++◌, length, drop, ltb}
+use Rattle.std.specs.Prelude.{ℕ, Bool, true, false, List, ◌++◌, length, drop, ltb, Result, Ok, Err}
 use Rattle.std.proofs.Math.Option.{Option, none, some}
 use Rattle.felica_format.specs.Command.{Command}
 use Rattle.felica_format.specs.Writable.{written}
+use Rattle.felica_command.specs.declared.command.Refusal.{Refusal}
 use Rattle.felica_command.specs.declared.command.Refusal.TheVariants.{Number, OfCommand}
-use Rattle.felica_write.specs.declared.Written.{Written}
-use Rattle.felica_write.specs.declared.Written.TheVariants.{Length, Refused}
 
 -- how many bytes were written; or the number of a refusal, and the code
 pub data Answer : Type 0 where
   wrote : ℕ → Answer
   refused : ℕ → Option ℕ → Answer
 
--- what a result says
+-- a result of the writer, and what it says
+abbrev pub Written : Type 0
+Written = Result ℕ Refusal
+
 abbrev pub meaning : Written → Answer
-meaning (Length n) = wrote n
-meaning (Refused (Number n)) = refused n none
-meaning (Refused (OfCommand n code)) = refused n (some code)
+meaning (Ok n) = wrote n
+meaning (Err (Number n)) = refused n none
+meaning (Err (OfCommand n code)) = refused n (some code)
 
 abbrev pub refusal : ℕ → ℕ → Written
-refusal number code = Refused (OfCommand number code)
+refusal number code = Err (OfCommand number code)
 
 -- an answer, and the buffer behind the call
 pub record Outcome : Type 0 where

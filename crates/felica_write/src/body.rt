@@ -1,174 +1,140 @@
 // The parts of a body, put into a buffer one behind the other.
-ghost use Rattle.std.specs.Prelude.{◌≡◌, true, false, [], ◌∷◌, ℕ, ◌≤◌, ◌<◌, length, take};
+ghost use Rattle.std.specs.Prelude.{◌≡◌, true, false, [], ◌∷◌, ◌≤◌, ◌<◌, length};
 ghost use Rattle.felica_format.specs.Basic.{all_below, word_bytes};
 ghost use Rattle.felica_format.specs.Command.{end_fields, zip_elements};
 ghost use Rattle.felica_format.specs.Read.{size_of};
 ghost use Rattle.felica_format.specs.Write.{idm_bytes, selector_bytes, words_bytes, codes_bytes, element_bytes, elements_bytes, ending_bytes, body_bytes};
-ghost use Rattle.felica_command.specs.Handed.{handed};
 ghost use Rattle.felica_layout.specs.Layout.{layout_meant, selector_meant, codes_meant, ending_meant};
-ghost use Rattle.felica_put.specs.Put.{buffer, put};
+ghost use Rattle.felica_put.specs.Output.{Puts};
+ghost use Rattle.felica_writable.specs.Handed.{handed_by};
 ghost use Rattle.felica_write.specs.Body.{Ready, element};
 
 use felica_command::fixed::Fixed;
-use felica_layout::{Codes, Ending, Layout, Selector};
-use felica_put::{put_byte, put_bytes};
+use felica_format::constants::Bounds;
+use felica_layout::{Ending, Layout, Selector};
+use felica_put::Output;
+use felica_writable::handed::Handed;
 
 // The least block number that takes two bytes.
 const LEAST_LONG: u16 = 256;
 
-pub(crate) fn put_body(
-    out: &mut [u8],
-    at: usize,
-    layout: Layout,
-    fixed: Fixed,
-    first: &[u16],
-    second: &[u16],
-    numbers: &[u16],
-    places: &[u8],
-    modes: &[u8],
-    data: &[u8],
-    package: &[u8],
-) -> usize
-    requires { Ready (layout_meant layout) (handed 0 fixed first.now second.now numbers.now places.now modes.now «data».now «package».now) }
-    ensures { (code : ℕ) → buffer out.new result ≡ put (buffer out.old at) (body_bytes (layout_meant layout) [] (handed code fixed first.now second.now numbers.now places.now modes.now «data».now «package».now)) }
+pub(crate) fn put_body(out: &mut Output<'_, u8>, layout: Layout, command: Handed<'_>)
+    requires { Ready (layout_meant layout) (handed_by command) }
+    ensures { Puts out.old out.new (body_bytes (layout_meant layout) [] (handed_by command.entry)) }
 {
-    let idm = fixed.idm;
-    let selector = layout.selector;
-    let first_codes = layout.first;
-    let second_codes = layout.second;
-    let ending = layout.ending;
-    let selector_at = put_idm(out, at, layout.idm, idm);
-    let first_at = put_selector(out, selector_at, selector, fixed.selector);
-    let second_at = put_codes(out, first_at, first_codes, first);
-    let elements_at = put_codes(out, second_at, second_codes, second);
-    let data_at = put_elements(out, elements_at, layout.elements, numbers, places, modes);
+    let fixed = command.fixed;
+    put_idm(out, layout.idm, fixed.idm);
+    put_selector(out, layout.selector, fixed.selector);
+    put_codes(out, layout.first, command.first);
+    put_codes(out, layout.second, command.second);
+    put_elements(
+        out,
+        layout.elements,
+        command.numbers,
+        command.places,
+        command.modes,
+    );
     // Data and package that the layout lacks are empty.
-    let ending_at = put_bytes(out, data_at, data);
-    let package_at = put_ending(out, ending_at, ending, fixed);
-    put_bytes(out, package_at, package)
+    out.put_all(command.data);
+    put_ending(out, layout.ending, fixed);
+    out.put_all(command.package);
 }
 
-fn put_idm(out: &mut [u8], at: usize, present: bool, idm: [u8; 8]) -> usize
-    ensures { buffer out.new result ≡ put (buffer out.old at) (idm_bytes present idm) }
+fn put_idm(out: &mut Output<'_, u8>, present: bool, idm: [u8; 8])
+    ensures { Puts out.old out.new (idm_bytes present idm) }
 {
-    if !present {
-        return at;
-    }
-    put_bytes(out, at, &idm)
-}
-
-fn put_selector(out: &mut [u8], at: usize, selector: Selector, value: u8) -> usize
-    ensures { buffer out.new result ≡ put (buffer out.old at) (selector_bytes (selector_meant selector) value) }
-{
-    match selector {
-        Selector::NoSelector => at,
-        Selector::TypeByte => put_byte(out, at, value),
-        Selector::AnyByte => put_byte(out, at, value),
+    if present {
+        out.put_all(&idm);
     }
 }
 
-fn put_codes(out: &mut [u8], at: usize, codes: Codes, list: &[u16]) -> usize
+fn put_selector(out: &mut Output<'_, u8>, selector: Option<Selector>, value: u8)
+    ensures { Puts out.old out.new (selector_bytes (selector_meant selector) value) }
+{
+    if selector.is_some() {
+        out.put(value);
+    }
+}
+
+fn put_codes(out: &mut Output<'_, u8>, codes: Option<Bounds>, list: &[u16])
     requires { length list.now ≤ 255 }
-    ensures { buffer out.new result ≡ put (buffer out.old at) (codes_bytes (codes_meant codes) list.now) }
+    ensures { Puts out.old out.new (codes_bytes (codes_meant codes) list.now) }
 {
-    match codes {
-        Codes::NoCodes => at,
-        Codes::Counted(_) => put_counted(out, at, list),
+    if codes.is_some() {
+        put_counted(out, list);
     }
 }
 
 // The count, and the codes.
-fn put_counted(out: &mut [u8], at: usize, list: &[u16]) -> usize
+fn put_counted(out: &mut Output<'_, u8>, list: &[u16])
     requires { length list.now ≤ 255 }
-    ensures { buffer out.new result ≡ put (buffer out.old at) (length list.now ∷ words_bytes list.now) }
+    ensures { Puts out.old out.new (length list.now ∷ words_bytes list.now) }
 {
-    let mut next = put_byte(out, at, list.len() as u8);
-    let mut i = 0;
-    while i < list.len() {
-        next = put_word(out, next, list[i]);
-        i += 1;
+    out.put(list.len() as u8);
+    for &code in list {
+        put_word(out, code);
     }
-    next
 }
 
-// The low byte first.
-fn put_word(out: &mut [u8], at: usize, word: u16) -> usize
-    ensures { buffer out.new result ≡ put (buffer out.old at) (word_bytes word) }
+// The low byte first. One by one, since a copy of two bytes takes twice as long.
+fn put_word(out: &mut Output<'_, u8>, word: u16)
+    ensures { Puts out.old out.new (word_bytes word) }
 {
-    let next = put_byte(out, at, (word % 256) as u8);
-    put_byte(out, next, (word / 256) as u8)
+    let [low, high] = word.to_le_bytes();
+    out.put(low);
+    out.put(high);
 }
 
 fn put_elements(
-    out: &mut [u8],
-    at: usize,
+    out: &mut Output<'_, u8>,
     present: bool,
     numbers: &[u16],
     places: &[u8],
     modes: &[u8],
-) -> usize
+)
     requires { (length numbers.now ≤ 255) × (length places.now ≡ length numbers.now) × (length modes.now ≡ length numbers.now) × (all_below 16 places.now ≡ true) × (all_below 8 modes.now ≡ true) }
-    ensures { buffer out.new result ≡ put (buffer out.old at) (elements_bytes present [] (zip_elements numbers.now places.now modes.now)) }
+    ensures { Puts out.old out.new (elements_bytes present [] (zip_elements numbers.now places.now modes.now)) }
 {
     if !present {
-        return at;
+        return;
     }
-    let mut next = put_byte(out, at, numbers.len() as u8);
-    let mut i = 0;
-    while i < numbers.len() {
-        next = put_element(out, next, numbers[i], places[i], modes[i]);
-        i += 1;
+    out.put(numbers.len() as u8);
+    for (i, &number) in numbers.iter().enumerate() {
+        put_element(out, number, places[i], modes[i]);
     }
-    next
 }
 
 // One element in its shortest form: bit 7 of its first byte says that one byte of block number follows.
-fn put_element(out: &mut [u8], at: usize, number: u16, place: u8, mode: u8) -> usize
+fn put_element(out: &mut Output<'_, u8>, number: u16, place: u8, mode: u8)
     requires { (place < 16) × (mode < 8) }
-    ensures { buffer out.new result ≡ put (buffer out.old at) (element_bytes false (element number place mode)) }
+    ensures { Puts out.old out.new (element_bytes false (element number place mode)) }
 {
     let head = 16 * mode + place;
     if number < LEAST_LONG {
-        let number_at = put_byte(out, at, 128 + head);
-        return put_byte(out, number_at, number as u8);
+        out.put(128 + head);
+        out.put(number as u8);
+    } else {
+        out.put(head);
+        put_word(out, number);
     }
-    let number_at = put_byte(out, at, head);
-    put_word(out, number_at, number)
 }
 
-fn put_challenge(out: &mut [u8], at: usize, challenge: [u8; 16], count: usize) -> usize
-    requires { count ≤ 16 }
-    ensures { buffer out.new result ≡ put (buffer out.old at) (take count challenge) }
-{
-    put_bytes(out, at, &challenge[..count])
-}
-
-fn put_ending(out: &mut [u8], at: usize, ending: Ending, fixed: Fixed) -> usize
+fn put_ending(out: &mut Output<'_, u8>, ending: Ending, fixed: Fixed)
     requires { size_of (ending_meant ending) ≤ 16 }
-    ensures { buffer out.new result ≡ put (buffer out.old at) (ending_bytes (ending_meant ending) (end_fields fixed.number fixed.index fixed.option fixed.choice fixed.challenge)) }
+    ensures { Puts out.old out.new (ending_bytes (ending_meant ending) (end_fields fixed.number fixed.index fixed.option fixed.choice fixed.challenge)) }
 {
-    let challenge = fixed.challenge;
     match ending {
-        Ending::Bytes(count) => put_challenge(out, at, challenge, count),
-        Ending::Word => put_word(out, at, fixed.number),
+        Ending::Bytes(count) => out.put_all(&fixed.challenge[..count]),
+        Ending::Word => put_word(out, fixed.number),
         Ending::Words => {
-            let next = put_word(out, at, fixed.number);
-            put_word(out, next, fixed.index)
+            put_word(out, fixed.number);
+            put_word(out, fixed.index);
         }
-        Ending::Reserved => put_bytes(out, at, b"\0\0"),
+        Ending::Reserved => out.put_all(b"\0\0"),
         Ending::Polling => {
-            let number = fixed.number;
-            let bytes = [
-                (number / 256) as u8,
-                (number % 256) as u8,
-                fixed.option,
-                fixed.choice,
-            ];
-            put_bytes(out, at, &bytes)
+            let [high, low] = fixed.number.to_be_bytes();
+            out.put_all(&[high, low, fixed.option, fixed.choice]);
         }
-        Ending::Parameter => {
-            let bytes = [0, 0, 0, 0, fixed.option, fixed.choice, 0, 0];
-            put_bytes(out, at, &bytes)
-        }
+        Ending::Parameter => out.put_all(&[0, 0, 0, 0, fixed.option, fixed.choice, 0, 0]),
     }
 }

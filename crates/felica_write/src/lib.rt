@@ -2,8 +2,8 @@
 #![tactic(auto)]
 
 ghost use Rattle.std.specs.Prelude.{◌≡◌};
-ghost use Rattle.felica_command.specs.Handed.{handed};
-ghost use Rattle.felica_write.specs.Writing.{meaning, refusal, outcome, writing};
+ghost use Rattle.felica_writable.specs.Handed.{handed_by};
+ghost use Rattle.felica_write.specs.Writing.{meaning, outcome, writing};
 
 mod body;
 mod head;
@@ -11,58 +11,30 @@ mod size;
 
 use body::put_body;
 use felica_command::command::Refusal;
-use felica_command::fixed::Fixed;
 use felica_format::error;
 use felica_layout::row_of;
+use felica_put::Output;
 use felica_writable::body_ok;
-use head::{Room, put_head, room_for};
+use felica_writable::handed::Handed;
+use head::{put_head, room_for};
 use size::body_size;
 
-#[derive(Clone, Copy)]
-pub enum Written {
-    // How many bytes stand at the front of the buffer.
-    Length(usize),
-    // 22 or 21, with the code handed in. No byte of the buffer is changed.
-    Refused(Refusal),
-}
-
+// How many bytes stand at the front of the buffer then; or 22 or 21, with the code handed in, and no byte of the buffer is changed.
 // `Fixed` says which fields a code has. A list that it lacks has to be empty and a fixed field zero, else it is 22.
-pub fn write(
-    code: u8,
-    fixed: Fixed,
-    first: &[u16],
-    second: &[u16],
-    numbers: &[u16],
-    places: &[u8],
-    modes: &[u8],
-    data: &[u8],
-    package: &[u8],
-    out: &mut [u8],
-) -> Written
-    ensures { outcome (meaning result) out.new ≡ writing (handed code fixed first.now second.now numbers.now places.now modes.now «data».now «package».now) out.old }
+pub fn write(command: Handed<'_>, out: &mut [u8]) -> Result<usize, Refusal>
+    ensures { outcome (meaning result) out.new ≡ writing (handed_by command.entry) out.old }
 {
+    let code = command.code;
     let row = row_of(code);
-    let class = row.class;
-    let layout = row.layout;
-    if !body_ok(
-        layout, fixed, first, second, numbers, places, modes, data, package,
-    ) {
-        return refused(error::UNWRITABLE, code);
+    if !body_ok(row.layout, command) {
+        return Err(Refusal::OfCommand(error::UNWRITABLE, code));
     }
-    let size = body_size(layout, first.len(), second.len(), numbers, data.len());
-    let room = room_for(class, size, package.len(), out.len());
-    if let Room::Refused(ground) = room {
-        return refused(ground, code);
-    }
-    let at = put_head(out, class, code, size);
-    let n = put_body(
-        out, at, layout, fixed, first, second, numbers, places, modes, data, package,
-    );
-    Written::Length(n)
-}
-
-fn refused(number: u8, code: u8) -> Written
-    ensures { result ≡ refusal number code }
-{
-    Written::Refused(Refusal::OfCommand(number, code))
+    let size = body_size(row.layout, command);
+    room_for(row.class, size, command.package.len(), out.len()).map_err(|number| Refusal::OfCommand(
+        number, code,
+    ))?;
+    let mut output = Output::new(out);
+    put_head(&mut output, row.class, code, size);
+    put_body(&mut output, row.layout, command);
+    Ok(output.len)
 }

@@ -3,29 +3,27 @@ ghost use Rattle.std.specs.Prelude.{◌≡◌, cond, ◌≤◌, length, ltb};
 ghost use Rattle.felica_format.specs.Read.{size_of};
 ghost use Rattle.felica_command.specs.Places.{selector_size, codes_size};
 ghost use Rattle.felica_layout.specs.Layout.{layout_meant, selector_meant, codes_meant, ending_meant};
-ghost use Rattle.felica_write.specs.Size.{Few, short_size, front_size};
+ghost use Rattle.felica_writable.specs.Handed.{handed_by};
+ghost use Rattle.felica_write.specs.Body.{Ready};
+ghost use Rattle.felica_write.specs.Size.{short_size, front_size};
 
-use felica_format::constants::IDM_LEN;
-use felica_layout::{Codes, Ending, Layout, Selector};
+use felica_format::constants::{Bounds, IDM_LEN};
+use felica_layout::{Ending, Layout, Selector};
+use felica_writable::handed::Handed;
 
 // All but the package: 5,893 bytes at most, so that sums with it are safe.
-pub(crate) fn body_size(
-    layout: Layout,
-    first: usize,
-    second: usize,
-    numbers: &[u16],
-    data: usize,
-) -> usize
-    requires { Few (layout_meant layout) first second (length numbers.now) «data» }
-    ensures { (result ≡ front_size (layout_meant layout) first second numbers.now «data») × (result ≤ 6000) }
+pub(crate) fn body_size(layout: Layout, command: Handed<'_>) -> usize
+    requires { Ready (layout_meant layout) (handed_by command) }
+    ensures { (result ≡ front_size (layout_meant layout) (length command.entry.first.now) (length command.entry.second.now) command.entry.numbers.now (length command.entry.data.now)) × (result ≤ 6000) }
 {
-    let selector = layout.selector;
-    let first_codes = layout.first;
-    let second_codes = layout.second;
-    let ending = layout.ending;
-    let lists = codes_size(first_codes, first) + codes_size(second_codes, second);
-    let blocks = size_if(layout.elements, 1 + short_size(numbers)) + data;
-    size_if(layout.idm, IDM_LEN) + selector_size(selector) + lists + blocks + ending_size(ending)
+    let lists = codes_size(layout.first, command.first.len())
+        + codes_size(layout.second, command.second.len());
+    let blocks = size_if(layout.elements, 1 + short_size(command.numbers)) + command.data.len();
+    size_if(layout.idm, IDM_LEN)
+        + selector_size(layout.selector)
+        + lists
+        + blocks
+        + ending_size(layout.ending)
 }
 
 fn size_if(present: bool, size: usize) -> usize
@@ -34,38 +32,32 @@ fn size_if(present: bool, size: usize) -> usize
     if present { size } else { 0 }
 }
 
-fn selector_size(selector: Selector) -> usize
+fn selector_size(selector: Option<Selector>) -> usize
     ensures { (result ≡ selector_size (selector_meant selector)) × (result ≤ 1) }
 {
     match selector {
-        Selector::NoSelector => 0,
-        Selector::TypeByte => 1,
-        Selector::AnyByte => 1,
+        None => 0,
+        Some(_) => 1,
     }
 }
 
-fn codes_size(codes: Codes, count: usize) -> usize
+fn codes_size(codes: Option<Bounds>, count: usize) -> usize
     requires { count ≤ 255 }
     ensures { (result ≡ codes_size (codes_meant codes) count) × (result ≤ 511) }
 {
     match codes {
-        Codes::NoCodes => 0,
-        Codes::Counted(_) => 1 + 2 * count,
+        None => 0,
+        Some(_) => 1 + 2 * count,
     }
 }
 
 // Elements in their shortest form.
 fn short_size(numbers: &[u16]) -> usize
     requires { length numbers.now ≤ 255 }
-    ensures { (result ≡ short_size numbers.now) × (result ≤ 765) }
+    ensures size { result ≡ short_size numbers.now }
+    ensures bound { result ≤ 765 }
 {
-    let mut size: usize = 0;
-    let mut i = 0;
-    while i < numbers.len() {
-        size += element_size(numbers[i]);
-        i += 1;
-    }
-    size
+    numbers.iter().map(|&number| element_size(number)).sum()
 }
 
 fn element_size(number: u16) -> usize
@@ -79,10 +71,8 @@ fn ending_size(ending: Ending) -> usize
 {
     match ending {
         Ending::Bytes(count) => count,
-        Ending::Word => 2,
-        Ending::Words => 4,
-        Ending::Reserved => 2,
-        Ending::Polling => 4,
+        Ending::Word | Ending::Reserved => 2,
+        Ending::Words | Ending::Polling => 4,
         Ending::Parameter => 8,
     }
 }

@@ -18,6 +18,7 @@ use felica_named::lists::{bytes_named, small_named, words_named};
 use felica_named::names::{DATA, FIRST, MODES, NAMES, NUMBERS, PACKAGE, PLACES, SECOND};
 use felica_named::notes::{Noted, note_fields};
 use felica_put::Output;
+use felica_writable::handed::Handed;
 use felica_write::write;
 
 // The longest lists that a well formed value has: of words in four digits, of numbers in one, and bytes in two.
@@ -102,17 +103,17 @@ fn answer_from(
     let modes_end = small_named(text, starts, MODES, modes);
     let data_end = bytes_named(text, starts, DATA, data);
     let package_end = bytes_named(text, starts, PACKAGE, package);
-    let written = write(
+    let command = Handed {
         code,
-        fixed_named(code, text, starts),
-        &first[..first_end],
-        &second[..second_end],
-        &numbers[..numbers_end],
-        &places[..places_end],
-        &modes[..modes_end],
-        &data[..data_end],
-        &package[..package_end],
-        room,
-    );
+        fixed: fixed_named(code, text, starts),
+        first: &first[..first_end],
+        second: &second[..second_end],
+        numbers: &numbers[..numbers_end],
+        places: &places[..places_end],
+        modes: &modes[..modes_end],
+        data: &data[..data_end],
+        package: &package[..package_end],
+    };
+    let written = write(command, room);
     put_written(out, written, room);
 }

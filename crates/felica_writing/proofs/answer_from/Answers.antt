@@ -10,49 +10,50 @@ use Rattle.felica_named.specs.Handed.{front_of}
 use Rattle.felica_named.proofs.Fields.{command_given}
 use Rattle.felica_write.specs.Writing.{writing}
 use Rattle.felica_answers.specs.Written.{written_line}
+use Rattle.felica_writing.proofs.Lines.{front_within, front_long}
 use Rattle.felica_writing.proofs.answer_from.Goals as goal
 
-pub slice_bounds-write-end : goal.slice_bounds-write-end
-slice_bounds-write-end c = put_within c.args.first.now 0 _ c.words_named-first_end.ensures (zero-le)
+pub slice_bounds-command-end : goal.slice_bounds-command-end
+slice_bounds-command-end c = front_within c.args.first.now _ c.words_named-first_end.ensures
 
-pub slice_bounds-write-end-2 : goal.slice_bounds-write-end-2
-slice_bounds-write-end-2 c = sym (length-take-le _ _ (put_within c.args.first.now 0 _ c.words_named-first_end.ensures (zero-le)))
+pub slice_bounds-command-end-2 : goal.slice_bounds-command-end-2
+slice_bounds-command-end-2 c = front_long c.args.first.now _ c.words_named-first_end.ensures
 
-pub slice_bounds-write-end-3 : goal.slice_bounds-write-end-3
-slice_bounds-write-end-3 c = put_within c.args.second.now 0 _ c.words_named-second_end.ensures (zero-le)
+pub slice_bounds-command-end-3 : goal.slice_bounds-command-end-3
+slice_bounds-command-end-3 c = front_within c.args.second.now _ c.words_named-second_end.ensures
 
-pub slice_bounds-write-end-4 : goal.slice_bounds-write-end-4
-slice_bounds-write-end-4 c = sym (length-take-le _ _ (put_within c.args.second.now 0 _ c.words_named-second_end.ensures (zero-le)))
+pub slice_bounds-command-end-4 : goal.slice_bounds-command-end-4
+slice_bounds-command-end-4 c = front_long c.args.second.now _ c.words_named-second_end.ensures
 
-pub slice_bounds-write-end-5 : goal.slice_bounds-write-end-5
-slice_bounds-write-end-5 c = put_within c.args.numbers.now 0 _ c.words_named-numbers_end.ensures (zero-le)
+pub slice_bounds-command-end-5 : goal.slice_bounds-command-end-5
+slice_bounds-command-end-5 c = front_within c.args.numbers.now _ c.words_named-numbers_end.ensures
 
-pub slice_bounds-write-end-6 : goal.slice_bounds-write-end-6
-slice_bounds-write-end-6 c = sym (length-take-le _ _ (put_within c.args.numbers.now 0 _ c.words_named-numbers_end.ensures (zero-le)))
+pub slice_bounds-command-end-6 : goal.slice_bounds-command-end-6
+slice_bounds-command-end-6 c = front_long c.args.numbers.now _ c.words_named-numbers_end.ensures
 
-pub slice_bounds-write-end-7 : goal.slice_bounds-write-end-7
-slice_bounds-write-end-7 c = put_within c.args.places.now 0 _ c.small_named-places_end.ensures (zero-le)
+pub slice_bounds-command-end-7 : goal.slice_bounds-command-end-7
+slice_bounds-command-end-7 c = front_within c.args.places.now _ c.small_named-places_end.ensures
 
-pub slice_bounds-write-end-8 : goal.slice_bounds-write-end-8
-slice_bounds-write-end-8 c = sym (length-take-le _ _ (put_within c.args.places.now 0 _ c.small_named-places_end.ensures (zero-le)))
+pub slice_bounds-command-end-8 : goal.slice_bounds-command-end-8
+slice_bounds-command-end-8 c = front_long c.args.places.now _ c.small_named-places_end.ensures
 
-pub slice_bounds-write-end-9 : goal.slice_bounds-write-end-9
-slice_bounds-write-end-9 c = put_within c.args.modes.now 0 _ c.small_named-modes_end.ensures (zero-le)
+pub slice_bounds-command-end-9 : goal.slice_bounds-command-end-9
+slice_bounds-command-end-9 c = front_within c.args.modes.now _ c.small_named-modes_end.ensures
 
-pub slice_bounds-write-end-10 : goal.slice_bounds-write-end-10
-slice_bounds-write-end-10 c = sym (length-take-le _ _ (put_within c.args.modes.now 0 _ c.small_named-modes_end.ensures (zero-le)))
+pub slice_bounds-command-end-10 : goal.slice_bounds-command-end-10
+slice_bounds-command-end-10 c = front_long c.args.modes.now _ c.small_named-modes_end.ensures
 
-pub slice_bounds-write-end-11 : goal.slice_bounds-write-end-11
-slice_bounds-write-end-11 c = put_within c.args.«data».now 0 _ c.bytes_named-data_end.ensures (zero-le)
+pub slice_bounds-command-end-11 : goal.slice_bounds-command-end-11
+slice_bounds-command-end-11 c = front_within c.args.«data».now _ c.bytes_named-data_end.ensures
 
-pub slice_bounds-write-end-12 : goal.slice_bounds-write-end-12
-slice_bounds-write-end-12 c = sym (length-take-le _ _ (put_within c.args.«data».now 0 _ c.bytes_named-data_end.ensures (zero-le)))
+pub slice_bounds-command-end-12 : goal.slice_bounds-command-end-12
+slice_bounds-command-end-12 c = front_long c.args.«data».now _ c.bytes_named-data_end.ensures
 
-pub slice_bounds-write-end-13 : goal.slice_bounds-write-end-13
-slice_bounds-write-end-13 c = put_within c.args.«package».now 0 _ c.bytes_named-package_end.ensures (zero-le)
+pub slice_bounds-command-end-13 : goal.slice_bounds-command-end-13
+slice_bounds-command-end-13 c = front_within c.args.«package».now _ c.bytes_named-package_end.ensures
 
-pub slice_bounds-write-end-14 : goal.slice_bounds-write-end-14
-slice_bounds-write-end-14 c = sym (length-take-le _ _ (put_within c.args.«package».now 0 _ c.bytes_named-package_end.ensures (zero-le)))
+pub slice_bounds-command-end-14 : goal.slice_bounds-command-end-14
+slice_bounds-command-end-14 c = front_long c.args.«package».now _ c.bytes_named-package_end.ensures
 
 pub shape_of-first : goal.shape_of-first
 shape_of-first c = c.words_named-first_end.auto.words

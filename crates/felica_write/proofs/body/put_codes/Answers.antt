@@ -1,13 +1,11 @@
 -- `felica_write::body::put_codes` meets its contract.
 -- Assumes nothing.
-use Rattle.felica_put.specs.Put.{put}
-use Rattle.felica_format.specs.Write.{codes_bytes}
+use Rattle.felica_put.proofs.Laws.{puts_nothing}
+use Rattle.felica_write.proofs.Parts.{with_codes, without_codes}
 use Rattle.felica_write.proofs.body.put_codes.Goals as goal
 
-pub returns-in-NoCodes : goal.returns-in-NoCodes
-unfolding codes_bytes put
-returns-in-NoCodes c = rw c.in-NoCodes.is
+pub returns-then-is_some : goal.returns-then-is_some
+returns-then-is_some c = rw (with_codes c.args.codes c.args.list.now cc) c.put_counted.ensures
 
-pub returns-in-Counted : goal.returns-in-Counted
-unfolding codes_bytes
-returns-in-Counted c = rw c.in-Counted.is c.put_counted.ensures
+pub returns-else-is_some : goal.returns-else-is_some
+returns-else-is_some c = rw (without_codes c.args.codes c.args.list.now cc) puts_nothing

@@ -1,43 +1,19 @@
 -- `felica_write::body::put_counted` meets its contract.
 -- Assumes nothing.
-use native.Mathlib.Omega.{arith}
-use mathlib.Core.Path.{refl, ◌∙◌}
+use Rattle.std.proofs.Common.{refl, arith}
 use Rattle.felica_format.specs.Basic.{word_bytes}
 use Rattle.felica_format.specs.Write.{words_bytes}
-use Rattle.felica_put.proofs.Laws.{put_then, put_more, put_done}
+use Rattle.felica_put.proofs.Laws.{puts_then, puts_nothing}
+use Rattle.felica_write.proofs.Elements.{puts_more, puts_whole}
 use Rattle.felica_write.proofs.body.put_counted.Goals as goal
 
-pub overflow_cast-list : goal.overflow_cast-list
-overflow_cast-list c = omega arith
-
-pub loop-i-init : goal.loop-i-init
-loop-i-init c = (omega arith, refl, refl)
-
-pub offset_bounds-list-i : goal.offset_bounds-list-i
-offset_bounds-list-i c = omega arith
-
-pub bounds-list-i : goal.bounds-list-i
-bounds-list-i c = omega arith
-
-pub overflow_add-i : goal.overflow_add-i
-overflow_add-i c = omega arith
-
-pub loop-i-smaller : goal.loop-i-smaller
-loop-i-smaller c = omega arith
-
-pub loop-i-preserved : goal.loop-i-preserved
+pub loop-code-init : goal.loop-code-init
 unfolding words_bytes
-loop-i-preserved c =
-    let l = c.loop-i in
-    let w = c.put_word-next in (
-      omega arith,
-      w.auto.out ∙ l.invariant.1,
-      put_more words_bytes word_bytes (λ a rest. refl) _ _ _ 0 c.loop-i-test.true l.invariant.2 w.ensures,
-    )
+loop-code-init c = puts_nothing
 
-pub shape_of-out : goal.shape_of-out
-shape_of-out c = c.loop-i.invariant.1 ∙ c.put_byte-next.auto.out
+pub loop-code-preserved : goal.loop-code-preserved
+unfolding words_bytes
+loop-code-preserved c = let l = c.loop-code in puts_more words_bytes word_bytes refl (λ x xs. refl) c.args.list.now l.code-index 0 (omega arith) l.invariant c.put_word.ensures
 
 pub returns : goal.returns
-unfolding words_bytes
-returns c = put_then _ _ _ c.put_byte-next.ensures (put_done words_bytes _ _ _ refl c.loop-i-test.false c.loop-i.invariant.2)
+returns c = puts_then c.put.ensures (puts_whole words_bytes c.args.list.now c.loop-code.code-index (omega arith) c.loop-code.invariant)

@@ -1,13 +1,13 @@
 -- `felica_write::body::put_idm` meets its contract.
 -- Assumes nothing.
-use Rattle.felica_put.specs.Put.{put}
 use Rattle.felica_format.specs.Write.{idm_bytes}
+use Rattle.felica_put.proofs.Laws.{puts_nothing}
 use Rattle.felica_write.proofs.body.put_idm.Goals as goal
 
-pub returns-then-not-present : goal.returns-then-not-present
-unfolding idm_bytes put
-returns-then-not-present c = rw (c.if-not-present.true)
-
-pub returns : goal.returns
+pub returns-then-present : goal.returns-then-present
 unfolding idm_bytes
-returns c = rw (c.if-not-present.false) c.put_bytes.ensures
+returns-then-present c = rw c.if-present.true c.put_all.ensures
+
+pub returns-else-present : goal.returns-else-present
+unfolding idm_bytes
+returns-else-present c = rw c.if-present.false puts_nothing

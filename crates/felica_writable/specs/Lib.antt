@@ -1,0 +1,2 @@
+-- What the writer is handed, as a command.
+pub mod Handed
