@@ -3,7 +3,7 @@
 use Prim.Native.Nat.{ℕ}
 use mathlib.Core.Path.{◌≡◌, refl, sym, subst}
 use mathlib.Core.List.{List}
-use mathlib.Core.Option.{Option, none, some}
+use Rattle.std.specs.Prelude.{Option, None, Some}
 use Rattle.felica_format.specs.Read.{Answer as Reading, refused}
 use Rattle.felica_command.specs.Meaning.{meaning, Canonical, refusal}
 use Rattle.felica_command.specs.Places.{places_of, read_places, Account, Inside}
@@ -13,8 +13,8 @@ use Rattle.felica_command.proofs.Inside.{none_inside}
 -- a refusal meets every clause
 pub refusal_account : (s : List ℕ) (at n : ℕ) (code : Option ℕ) (reading : Reading) (r : Parsed) → r ≡ refusal n code → reading ≡ refused n code
     → Account s at reading r
-refusal_account s at n none reading r e is = rw (e, is) (refl, refl, (refl, refl, refl))
-refusal_account s at n (some code) reading r e is = rw (e, is) (refl, refl, (refl, refl, refl))
+refusal_account s at n None reading r e is = rw (e, is) (refl, refl, (refl, refl, refl))
+refusal_account s at n (Some code) reading r e is = rw (e, is) (refl, refl, (refl, refl, refl))
 
 -- all that an entry promises
 abbrev pub Settled : List ℕ → ℕ → Reading → Parsed → Type 0

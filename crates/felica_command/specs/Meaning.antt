@@ -1,7 +1,7 @@
 -- What a result says of the payload that it was read from: the number and values of document 01 for each of its cases.
 -- Assumes nothing.
 use Rattle.std.specs.Prelude.{◌≡◌, ℕ, List, [], map, take, drop}
-use Rattle.std.proofs.Math.Option.{Option, none, some}
+use Rattle.std.specs.Prelude.{Option, None, Some}
 use Rattle.felica_format.specs.Basic.{Step, taken, refuse, zeros}
 use Rattle.felica_format.specs.Command.{Command, Element, Formed, end_fields, command_of}
 use Rattle.felica_format.specs.Read.{words_of, read_each, Answer as Reading, gives, refused}
@@ -140,8 +140,8 @@ command_is s idm challenge f =
 
 -- "A refusal gives its number and, from 4 up, the command code"
 abbrev pub refusal_is : Refusal → Reading
-refusal_is (Number n) = refused n none
-refusal_is (OfCommand n code) = refused n (some code)
+refusal_is (Number n) = refused n None
+refusal_is (OfCommand n code) = refused n (Some code)
 
 abbrev pub answer_is : List ℕ → List ℕ → List ℕ → ℕ → Answer → Reading
 answer_is s idm challenge long (AnswerCommand kind) = gives (command_is s idm challenge (fields_of kind)) long
@@ -164,5 +164,5 @@ abbrev pub refused_by : Refusal → Parsed
 refused_by why = record { answer = AnswerRefused why; idm = zeros 8; challenge = zeros 16; long = 0 }
 
 abbrev pub refusal : ℕ → Option ℕ → Parsed
-refusal n none = refused_by (Number n)
-refusal n (some code) = refused_by (OfCommand n code)
+refusal n None = refused_by (Number n)
+refusal n (Some code) = refused_by (OfCommand n code)

@@ -1,6 +1,6 @@
 // The commands of command/mod.rs and the result of a parse.
 ghost use Rattle.std.specs.Prelude.{◌≡◌};
-ghost use Rattle.std.proofs.Math.Option.{some, none};
+ghost use Rattle.std.specs.Prelude.{Some, None};
 ghost use Rattle.felica_command.specs.Meaning.{fields_of, refused_by, refusal};
 
 use crate::types::{
@@ -194,14 +194,14 @@ impl Parsed {
 
     // A refusal from 4 up.
     pub fn refused(number: u8, command_code: u8) -> Parsed
-        ensures { result ≡ refusal number (some command_code) }
+        ensures { result ≡ refusal number (Some command_code) }
     {
         Parsed::refused_by(Refusal::OfCommand(number, command_code))
     }
 
     // A refusal before there is a command code: 1 to 3.
     pub fn refused_without_code(number: u8) -> Parsed
-        ensures { result ≡ refusal number none }
+        ensures { result ≡ refusal number None }
     {
         Parsed::refused_by(Refusal::Number(number))
     }

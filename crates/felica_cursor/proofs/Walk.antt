@@ -5,7 +5,7 @@ use native.Mathlib.Omega.{arith}
 use mathlib.Core.Path.{◌≡◌, refl, sym, ap, ◌∙◌}
 use mathlib.Core.Bool.{true, false}
 use mathlib.Core.List.{List, [], map}
-use mathlib.Core.Option.{some}
+use Rattle.std.specs.Prelude.{Some}
 use lib.ListN.{length, drop}
 use borrow.Author.Tests.{le-ltb}
 use Rattle.felica_format.specs.Basic.{Step, taken, refuse, bind, refuse_if, zeros}
@@ -93,7 +93,7 @@ data_counted es n l e h = rw e h
 
 -- a body that is refused
 pub refused_at : (s : List ℕ) (at code n g : ℕ) (l : Layout) (r : Parsed) → layout_of code ≡ l → read_body code l (drop at s) ≡ refuse n
-    → g ≡ n → r ≡ refusal g (some code) → BodyRead s at code r
+    → g ≡ n → r ≡ refusal g (Some code) → BodyRead s at code r
 refused_at s at code n g l r is walk ground e = rw (e, ground, is, walk) (refl, refl, (refl, refl, refl))
 
 -- a body that is accepted

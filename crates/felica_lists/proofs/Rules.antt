@@ -6,7 +6,7 @@ use native.Mathlib.Omega.{arith}
 use mathlib.Core.Path.{◌≡◌, refl, sym, ap, ◌∙◌}
 use mathlib.Core.Logic.{◌⊎◌, inl, inr, ⊎_elim}
 use mathlib.Core.Bool.{Bool, true, false}
-use mathlib.Core.Option.{Option, some}
+use Rattle.std.specs.Prelude.{Option, Some}
 use Rattle.felica_format.specs.Command.{Command}
 use Rattle.felica_format.specs.Read.{Answer as Reading, gives, refused, read_frame, read_payload, read_secure}
 use Rattle.felica_format.proofs.Steps.{not_given}
@@ -41,7 +41,7 @@ twenty_one (gives c long) below b code = (there (fits (lists_of c) b) refl, back
     back (d, n, is, short, carried) =
         let same : c ≡ d = cc in
         let short' = ap (λ (x : Command). fits (lists_of x) b) same ∙ short in
-        rw short' (ap (λ (k : Option ℕ). refused 21 k) (ap (λ (x : Command). some x.code) same ∙ sym carried))
+        rw short' (ap (λ (k : Option ℕ). refused 21 k) (ap (λ (x : Command). Some x.code) same ∙ sym carried))
 twenty_one (refused m k) below b code = (λ h. absurd (let z : m ≡ 21 = cc in omega (arith, below m k refl)), λ (d, long, is, short, carried). absurd (not_given is))
 
 pub frame_twenty_one : FrameTwentyOne
@@ -72,5 +72,5 @@ parsers_result s at (gives d long) b p r a account (m, q, c, i) = go (fits (list
         → (r ≡ p) ⊎ ((code : Option ℕ) × TooSmall (gives d long) b code × (r ≡ refusal 21 code))
     go true e m = inl (one_result s at (gives d long) r p (ap (λ (o : Outcome). o.answer) m) q c account)
     go false e m =
-        let same = one_result s at (refused 21 (some d.code)) r (refusal 21 (some d.code)) (ap (λ (o : Outcome). o.answer) m) q c (refl, refl, (refl, refl, refl)) in
-        inr (some d.code, (d, long, refl, e, refl), same)
+        let same = one_result s at (refused 21 (Some d.code)) r (refusal 21 (Some d.code)) (ap (λ (o : Outcome). o.answer) m) q c (refl, refl, (refl, refl, refl)) in
+        inr (Some d.code, (d, long, refl, e, refl), same)

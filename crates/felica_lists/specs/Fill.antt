@@ -1,7 +1,7 @@
 -- The steps of the list reader: the lists of a command's parts, written where every buffer has room, and the result that goes with them.
 -- Assumes nothing.
 use Rattle.std.specs.Prelude.{ℕ, Bool, true, false, cond, List, map}
-use Rattle.std.proofs.Math.Option.{some}
+use Rattle.std.specs.Prelude.{Some}
 use Rattle.felica_command.specs.Meaning.{codes_at, elements_at, fields_of, refusal}
 use Rattle.felica_command.specs.Places.{CodesInside, ElementsInside}
 use Rattle.felica_command.specs.Lists.{lists_in}
@@ -53,7 +53,7 @@ given result b = record { result = result; buffers = b }
 
 -- what the list reader makes of a result of the parser
 abbrev pub give_filled : Parsed → ℕ → Filled → Given
-give_filled parsed code f = given (cond f.done parsed (refusal 21 (some code))) f.buffers
+give_filled parsed code f = given (cond f.done parsed (refusal 21 (Some code))) f.buffers
 
 abbrev pub give_answer : List ℕ → Parsed → Answer → Buffers → Given
 give_answer s parsed (AnswerCommand kind) b = give_filled parsed (fields_of kind).code (fill (lists_at s (lists_in (fields_of kind))) b)

@@ -1,7 +1,7 @@
 -- What follows from the definition of the list reader, in document 01's words, as statements. Each is proved under its name in proofs/Rules.antt.
 -- Assumes nothing.
 use Rattle.std.specs.Prelude.{ℕ, ◌≡◌, ◌⊎◌, ◌↔◌, false, List}
-use Rattle.std.proofs.Math.Option.{Option, some}
+use Rattle.std.specs.Prelude.{Option, Some}
 use Rattle.felica_format.specs.Command.{Command}
 use Rattle.felica_format.specs.Read.{Answer as Reading, gives, refused, read_frame, read_payload, read_secure}
 use Rattle.felica_command.specs.Meaning.{meaning, Canonical, refusal}
@@ -15,7 +15,7 @@ RefusedUntouched = (reading : Reading) (b : Buffers) (n : ℕ) (code : Option �
 
 -- the bytes give a command with this code, and a buffer is shorter than its list
 abbrev pub TooSmall : Reading → Buffers → Option ℕ → Type 0
-TooSmall reading b code = (c : Command) × (long : ℕ) × (reading ≡ gives c long) × (fits (lists_of c) b ≡ false) × (code ≡ some c.code)
+TooSmall reading b code = (c : Command) × (long : ℕ) × (reading ≡ gives c long) × (fits (lists_of c) b ≡ false) × (code ≡ Some c.code)
 
 -- "21 exactly when a buffer is shorter than its list"
 abbrev pub TwentyOneExactly : Reading → Type 0

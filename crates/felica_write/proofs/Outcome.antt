@@ -6,7 +6,7 @@ use mathlib.Core.Path.{◌≡◌, refl, sym, ap, ◌∙◌, subst}
 use mathlib.Core.Logic.{◌⊎◌, inl, inr, ⊎_elim}
 use mathlib.Core.Bool.{Bool, true, false, cond}
 use mathlib.Core.List.{List, [], ◌∷◌, ◌++◌}
-use mathlib.Core.Option.{some}
+use Rattle.std.specs.Prelude.{Some}
 use lib.ListN.{length}
 use lib.Dec.{ltb}
 use borrow.Author.Tests.{lt-ltb, le-ltb, le-leb, lt-leb, ltb-true, ltb-false}
@@ -31,12 +31,12 @@ use Rattle.felica_write.proofs.Ready.{ready, body_length}
 
 -- the three outcomes
 module _ (c : Command) (out : List ℕ) where
-  pub unwritten : writable c ≡ false → outcome (refused 22 (some c.code)) out ≡ writing c out
+  pub unwritten : writable c ≡ false → outcome (refused 22 (Some c.code)) out ≡ writing c out
   unfolding writing written
   unwritten e = rw e
 
   module _ (s : List ℕ) (ok : writable c ≡ true) (is : shortest (class_of c.code) c ≡ s) where
-    pub buffer_small : length out < length s → outcome (refused 21 (some c.code)) out ≡ writing c out
+    pub buffer_small : length out < length s → outcome (refused 21 (Some c.code)) out ≡ writing c out
     unfolding writing written
     buffer_small h = rw (ok, is, lt-ltb (length out) (length s) h)
 
@@ -91,7 +91,7 @@ module _ (c : Command) (k : Class) (l : Layout) (found : row k l ≡ row_of c.co
   unfolding secure_of
   payload_is = rw layout_is
 
-  pub no_body : (out : List ℕ) → body_ok l c ≡ false → outcome (refused 22 (some c.code)) out ≡ writing c out
+  pub no_body : (out : List ℕ) → body_ok l c ≡ false → outcome (refused 22 (Some c.code)) out ≡ writing c out
   unfolding writable
   no_body out e = unwritten c out (sym (stop _ _ (ap (λ (m : Layout). body_ok m c) (sym layout_is) ∙ e)))
 
@@ -103,9 +103,9 @@ module _ (c : Command) (k : Class) (l : Layout) (found : row k l ≡ row_of c.co
     -- a plain command has no package
     plain_whole : k ≡ Plain → suc (suc (length (body_bytes l [] c))) ≡ 2 + size
     plain_whole e =
-        let none = plain_package c.code c.issue_package (sym class_is ∙ e) in
+        let None = plain_package c.code c.issue_package (sym class_is ∙ e) in
         let all = (ready l c narrow ok).all_package in
-        let empty : length c.issue_package ≡ 0 = ap length (sym all ∙ ap (λ (m : Layout). package_bytes m.behind c.issue_package) layout_is ∙ none) in
+        let empty : length c.issue_package ≡ 0 = ap length (sym all ∙ ap (λ (m : Layout). package_bytes m.behind c.issue_package) layout_is ∙ None) in
         omega (arith, whole, empty)
 
     module _ (out : List ℕ) where
@@ -155,14 +155,14 @@ module _ (c : Command) (k : Class) (l : Layout) (found : row k l ≡ row_of c.co
       unfolding writable
       may b e = sym (pass _ _ (ap (λ (m : Layout). body_ok m c) (sym layout_is) ∙ ok)) ∙ ap (λ (j : Class). fits_class j c) (sym class_is) ∙ e
 
-      pub no_room : (g : ℕ) → room_for k size (length c.issue_package) (length out) ≡ Refused g → outcome (refused g (some c.code)) out ≡ writing c out
+      pub no_room : (g : ℕ) → room_for k size (length c.issue_package) (length out) ≡ Refused g → outcome (refused g (Some c.code)) out ≡ writing c out
       unfolding Ground
       no_room g r = ⊎_elim does_not_fit too_small (ground k g refl r)
         where
-          does_not_fit : (g ≡ 22) × (fits_class k c ≡ false) → outcome (refused g (some c.code)) out ≡ writing c out
+          does_not_fit : (g ≡ 22) × (fits_class k c ≡ false) → outcome (refused g (Some c.code)) out ≡ writing c out
           does_not_fit h = rw h.0 (unwritten c out (may false h.1))
 
-          too_small : (g ≡ 21) × (fits_class k c ≡ true) × (length out < length (shortest k c)) → outcome (refused g (some c.code)) out ≡ writing c out
+          too_small : (g ≡ 21) × (fits_class k c ≡ true) × (length out < length (shortest k c)) → outcome (refused g (Some c.code)) out ≡ writing c out
           too_small h = rw h.0 (buffer_small c out (shortest k c) (may true h.1) (ap (λ (j : Class). shortest j c) (sym class_is)) h.2)
 
       pub all_stored : room_for k size (length c.issue_package) (length out) ≡ Enough → (after : List ℕ) (n : ℕ)
