@@ -1,7 +1,7 @@
 -- What the functions for C answer, and what the memory that they are lent holds then: 01's number and values for each case, as bytes and numbers.
 -- Assumes nothing.
 use Rattle.std.specs.Prelude.{ℕ, List, [], ◌∷◌}
-use Rattle.std.proofs.Math.Option.{Option, none, some}
+use Rattle.std.specs.Prelude.{Option, None, Some}
 use Rattle.felica_format.specs.Read.{Answer as Reading, gives, refused}
 use Rattle.felica_command.specs.Places.{Places, read_places}
 use Rattle.felica_command.specs.declared.fixed.Fixed.{Fixed}
@@ -42,8 +42,8 @@ told a m = record { answer = a; memory = m }
 
 -- the code of a refusal, 0 where it has none
 abbrev pub code_or_zero : Option ℕ → ℕ
-code_or_zero none = 0
-code_or_zero (some code) = code
+code_or_zero None = 0
+code_or_zero (Some code) = code
 
 -- The account of a parse, for what the bytes give in the payload s, whose body begins at `at`, and the memory before the call. A command has the number 0,
 -- tells how many of its elements were long, and fills the memory; a refusal tells 0 of them and leaves it as it was.

@@ -1,16 +1,14 @@
 -- No two results meet one account: the fields of a command tell its kind.
 -- Assumes nothing.
-use Prim.Native.Nat.{ℕ}
-use native.Mathlib.Omega.{arith}
-use mathlib.Core.Path.{◌≡◌, refl, sym, ap, ◌∙◌}
-use mathlib.Core.Bool.{cond}
-use mathlib.Core.List.{List}
-use lib.Dec.{eqb}
+use Rattle.std.proofs.Common.{ℕ, ◌≡◌, refl, sym, ap, ◌∙◌, cond, List, eqb}
+use Rattle.std.specs.Prelude.{Option, Result, Ok, Err}
+use Rattle.felica_format.specs.declared.error.Reason.{Reason}
+use Rattle.felica_format.specs.Reasons.{number_of}
 use Rattle.felica_format.specs.Command.{Command}
 use Rattle.felica_format.specs.Read.{gives}
 use Rattle.felica_command.specs.Types.{property_of, property_index}
-use Rattle.felica_command.specs.Meaning.{Fields, fields_of, command_is, refusal_is, answer_is, CanonicalAnswer}
-use Rattle.felica_command.specs.Places.{Places, places_in, answer_places, OneAccount}
+use Rattle.felica_command.specs.Meaning.{Fields, fields_of, command_is, refusal_is, refusal, meaning, Canonical}
+use Rattle.felica_command.specs.Places.{Places, places_in, places_of, OneAccount}
 use Rattle.felica_command.specs.declared.types.NodePropertyType.{NodePropertyType}
 use Rattle.felica_command.specs.declared.types.NodePropertyType.TheVariants.{ValueLimitedPurseService, MacCommunication}
 use Rattle.felica_command.specs.declared.types.SetParameterEncryptionType.{SetParameterEncryptionType}
@@ -30,11 +28,9 @@ use Rattle.felica_command.specs.declared.command.FelicaStandardCommand.TheVarian
 use Rattle.felica_command.specs.declared.command.FelicaStandardCommand.TheVariants.{RequestSpecificationVersion, ResetMode, Authentication1V2}
 use Rattle.felica_command.specs.declared.command.FelicaStandardCommand.TheVariants.{Authentication2V2, GetContainerId, RegisterIssueId, RegisterArea}
 use Rattle.felica_command.specs.declared.command.FelicaStandardCommand.TheVariants.{RegisterService, ChangeSystemBlock}
-use Rattle.felica_command.specs.declared.command.Refusal.{Refusal}
-use Rattle.felica_command.specs.declared.command.Refusal.TheVariants.{Number, OfCommand}
-use Rattle.felica_command.specs.declared.command.Answer.{Answer}
-use Rattle.felica_command.specs.declared.command.Answer.TheVariants.{Command as AnswerCommand, Refused as AnswerRefused}
 use Rattle.felica_command.specs.declared.command.Parsed.{Parsed}
+use Rattle.felica_command.specs.declared.command.Refusal.{Refusal}
+use Rattle.felica_format.proofs.Reasons.{one_reason}
 
 -- the kind that has these fields
 kind_with : ℕ → ℕ → Places → ℕ → ℕ → ℕ → ℕ → FelicaStandardCommand
@@ -129,45 +125,39 @@ kind_back (RegisterArea a b) h = refl
 kind_back (RegisterService a b) h = refl
 kind_back ChangeSystemBlock h = refl
 
-abbrev parsed : Answer → List ℕ → List ℕ → ℕ → Parsed
-parsed a idm challenge long = record { answer = a; idm = idm; challenge = challenge; long = long }
-
-parsed_same : {a a' : Answer} {idm idm' challenge challenge' : List ℕ} {long long' : ℕ} → a ≡ a' → idm ≡ idm' → challenge ≡ challenge' → long ≡ long'
-    → parsed a idm challenge long ≡ parsed a' idm' challenge' long'
+parsed_same : {k k' : FelicaStandardCommand} {idm idm' challenge challenge' : List ℕ} {long long' : ℕ} → k ≡ k' → idm ≡ idm' → challenge ≡ challenge' → long ≡ long'
+    → ◌≡◌ {A = Parsed} (record { command = k; idm = idm; challenge = challenge; long = long }) (record { command = k'; idm = idm'; challenge = challenge'; long = long' })
 parsed_same p q r u = rw (p, q, r, u)
 
-commands_one : (s idm idm' challenge challenge' : List ℕ) (long long' : ℕ) → long ≡ long' → (k k' : FelicaStandardCommand)
-    → command_is s idm challenge (fields_of k) ≡ command_is s idm' challenge' (fields_of k') → places_in (fields_of k) ≡ places_in (fields_of k')
-    → (fields_of k).property ≡ property_of (property_index (fields_of k).property) → (fields_of k').property ≡ property_of (property_index (fields_of k').property)
-    → parsed (AnswerCommand k) idm challenge long ≡ parsed (AnswerCommand k') idm' challenge' long'
+commands_one : (s : List ℕ) (p q : Parsed) → p.long ≡ q.long
+    → command_is s p.idm p.challenge (fields_of p.command) ≡ command_is s q.idm q.challenge (fields_of q.command) → places_in (fields_of p.command) ≡ places_in (fields_of q.command)
+    → Canonical (Ok p) → Canonical (Ok q) → p ≡ q
 unfolding kind_of
-commands_one s idm idm' challenge challenge' long long' count k k' e at h h' =
+commands_one s p q count e at h h' =
     let same = kind_same (ap (λ (c : Command). c.code) e) (ap (λ (c : Command). c.selector) e) at (ap (λ (c : Command). c.number) e)
     (ap (λ (c : Command). c.index) e) (ap (λ (c : Command). c.option) e) (ap (λ (c : Command). c.choice) e) in
-    parsed_same (ap AnswerCommand (sym (kind_back k h) ∙ same ∙ kind_back k' h')) (ap (λ (c : Command). c.idm) e) (ap (λ (c : Command). c.challenge) e) count
+    parsed_same (sym (kind_back p.command h) ∙ same ∙ kind_back q.command h') (ap (λ (c : Command). c.idm) e) (ap (λ (c : Command). c.challenge) e) count
+
+refusal_same : {a b : Reason} {c d : Option ℕ} → a ≡ b → c ≡ d → refusal a c ≡ refusal b d
+refusal_same p q = rw (p, q)
 
 refusals_one : (w w' : Refusal) → refusal_is w ≡ refusal_is w' → w ≡ w'
-refusals_one (Number n) (Number m) e = cc
-refusals_one (Number n) (OfCommand m code) e = let z : ◌≡◌ {A = ℕ} 0 1 = cc in absurd (omega arith)
-refusals_one (OfCommand n code) (Number m) e = let z : ◌≡◌ {A = ℕ} 0 1 = cc in absurd (omega arith)
-refusals_one (OfCommand n code) (OfCommand m code') e = cc
+refusals_one w w' e =
+    let number : number_of w.reason ≡ number_of w'.reason = cc in
+    let code : w.command_code ≡ w'.command_code = cc in
+    refusal_same (one_reason w.reason w'.reason number) code
 
 no_refusal : (c : Command) (long : ℕ) (w : Refusal) → gives c long ≡ refusal_is w → ⊥
-no_refusal c long (Number n) e = let z : ◌≡◌ {A = ℕ} 0 1 = cc in omega arith
-no_refusal c long (OfCommand n code) e = let z : ◌≡◌ {A = ℕ} 0 1 = cc in omega arith
+no_refusal c long w e = cc
 
-answers_one : (s idm idm' challenge challenge' : List ℕ) (long long' : ℕ) (a a' : Answer) → answer_is s idm challenge long a ≡ answer_is s idm' challenge' long' a'
-    → answer_places a ≡ answer_places a' → CanonicalAnswer idm challenge long a → CanonicalAnswer idm' challenge' long' a'
-    → parsed a idm challenge long ≡ parsed a' idm' challenge' long'
-answers_one s idm idm' challenge challenge' long long' (AnswerCommand k) (AnswerCommand k') e at h h' =
-    let same : command_is s idm challenge (fields_of k) ≡ command_is s idm' challenge' (fields_of k') = cc in
-    let count : long ≡ long' = cc in
-    commands_one s idm idm' challenge challenge' long long' count k k' same at h h'
-answers_one s idm idm' challenge challenge' long long' (AnswerCommand k) (AnswerRefused w) e at h h' = absurd (no_refusal _ _ w e)
-answers_one s idm idm' challenge challenge' long long' (AnswerRefused w) (AnswerCommand k) e at h h' = absurd (no_refusal _ _ w (sym e))
-answers_one s idm idm' challenge challenge' long long' (AnswerRefused w) (AnswerRefused w') e at h h' =
-    parsed_same (ap AnswerRefused (refusals_one w w' e)) (h.0 ∙ sym h'.0) (h.1 ∙ sym h'.1) (h.2 ∙ sym h'.2)
+results_one : (s : List ℕ) (r t : Result Parsed Refusal) → meaning s r ≡ meaning s t → places_of r ≡ places_of t → Canonical r → Canonical t → r ≡ t
+results_one s (Ok p) (Ok q) e at h h' =
+    let same : command_is s p.idm p.challenge (fields_of p.command) ≡ command_is s q.idm q.challenge (fields_of q.command) = cc in
+    let count : p.long ≡ q.long = cc in
+    ap Ok (commands_one s p q count same at h h')
+results_one s (Ok p) (Err w) e at h h' = absurd (no_refusal _ _ w e)
+results_one s (Err w) (Ok p) e at h h' = absurd (no_refusal _ _ w (sym e))
+results_one s (Err w) (Err w') e at h h' = ap Err (refusals_one w w' e)
 
 pub one_account : OneAccount
-one_account s at reading r t (m, p, c) (m', p', c') =
-    answers_one s r.idm t.idm r.challenge t.challenge r.long t.long r.answer t.answer (m ∙ sym m') (p ∙ sym p') c c'
+one_account s at reading r t (m, p, c) (m', p', c') = results_one s r t (m ∙ sym m') (p ∙ sym p') c c'

@@ -1,8 +1,9 @@
 -- What a result says of the payload that it was read from: the number and values of document 01 for each of its cases.
 -- Assumes nothing.
-use Rattle.std.specs.Prelude.{◌≡◌, ℕ, List, [], map, take, drop}
-use Rattle.std.proofs.Math.Option.{Option, none, some}
+use Rattle.std.specs.Prelude.{◌≡◌, ℕ, List, [], map, take, drop, Option, Result, Ok, Err}
 use Rattle.felica_format.specs.Basic.{Step, taken, refuse, zeros}
+use Rattle.felica_format.specs.Reasons.{number_of}
+use Rattle.felica_format.specs.declared.error.Reason.{Reason}
 use Rattle.felica_format.specs.Command.{Command, Element, Formed, end_fields, command_of}
 use Rattle.felica_format.specs.Read.{words_of, read_each, Answer as Reading, gives, refused}
 use Rattle.felica_command.specs.Types.{property_of, property_index, node_property_byte, encryption_byte, packet_byte}
@@ -22,9 +23,6 @@ use Rattle.felica_command.specs.declared.command.FelicaStandardCommand.TheVarian
 use Rattle.felica_command.specs.declared.command.FelicaStandardCommand.TheVariants.{Authentication2V2, GetContainerId, RegisterIssueId, RegisterArea}
 use Rattle.felica_command.specs.declared.command.FelicaStandardCommand.TheVariants.{RegisterService, ChangeSystemBlock}
 use Rattle.felica_command.specs.declared.command.Refusal.{Refusal}
-use Rattle.felica_command.specs.declared.command.Refusal.TheVariants.{Number, OfCommand}
-use Rattle.felica_command.specs.declared.command.Answer.{Answer}
-use Rattle.felica_command.specs.declared.command.Answer.TheVariants.{Command as AnswerCommand, Refused as AnswerRefused}
 use Rattle.felica_command.specs.declared.command.Parsed.{Parsed}
 
 abbrev pub part : ℕ → ℕ → Part
@@ -140,29 +138,21 @@ command_is s idm challenge f =
 
 -- "A refusal gives its number and, from 4 up, the command code"
 abbrev pub refusal_is : Refusal → Reading
-refusal_is (Number n) = refused n none
-refusal_is (OfCommand n code) = refused n (some code)
-
-abbrev pub answer_is : List ℕ → List ℕ → List ℕ → ℕ → Answer → Reading
-answer_is s idm challenge long (AnswerCommand kind) = gives (command_is s idm challenge (fields_of kind)) long
-answer_is s idm challenge long (AnswerRefused why) = refusal_is why
+refusal_is why = refused (number_of why.reason) why.command_code
 
 -- what a result says of the payload s
-abbrev pub meaning : List ℕ → Parsed → Reading
-meaning s r = answer_is s r.idm r.challenge r.long r.answer
+abbrev pub meaning : List ℕ → Result Parsed Refusal → Reading
+meaning s (Ok p) = gives (command_is s p.idm p.challenge (fields_of p.command)) p.long
+meaning s (Err why) = refusal_is why
 
--- What `meaning` leaves open is pinned: a property is the one of its number, so that `Unknown` never holds 0 or 1, and beside a refusal the arrays and the count of long elements are zero.
-abbrev pub CanonicalAnswer : List ℕ → List ℕ → ℕ → Answer → Type 0
-CanonicalAnswer idm challenge long (AnswerCommand kind) = (fields_of kind).property ≡ property_of (property_index (fields_of kind).property)
-CanonicalAnswer idm challenge long (AnswerRefused why) = (idm ≡ zeros 8) × (challenge ≡ zeros 16) × (long ≡ 0)
+-- What `meaning` leaves open is pinned: a property is the one of its number, so that `Unknown` never holds 0 or 1.
+abbrev pub Canonical : Result Parsed Refusal → Type 0
+Canonical (Ok p) = (fields_of p.command).property ≡ property_of (property_index (fields_of p.command).property)
+Canonical (Err why) = Unit {0}
 
-abbrev pub Canonical : Parsed → Type 0
-Canonical r = CanonicalAnswer r.idm r.challenge r.long r.answer
+abbrev pub refusal : Reason → Option ℕ → Refusal
+refusal reason code = record { reason = reason; command_code = code }
 
--- the result that refuses
-abbrev pub refused_by : Refusal → Parsed
-refused_by why = record { answer = AnswerRefused why; idm = zeros 8; challenge = zeros 16; long = 0 }
-
-abbrev pub refusal : ℕ → Option ℕ → Parsed
-refusal n none = refused_by (Number n)
-refusal n (some code) = refused_by (OfCommand n code)
+-- a command that has neither IDm nor challenge
+abbrev pub bare : FelicaStandardCommand → Parsed
+bare command = record { command = command; idm = zeros 8; challenge = zeros 16; long = 0 }

@@ -1,22 +1,16 @@
 -- The number of each typed value, and the typed value of a number.
 -- Assumes nothing.
-use Rattle.std.specs.Prelude.{ℕ, cond, eqb}
+use Rattle.std.specs.Prelude.{ℕ, cond, eqb, Option, Some, None}
 use Rattle.felica_format.specs.Command.{Element}
 use Rattle.felica_command.specs.declared.types.BlockListElement.{BlockListElement}
 use Rattle.felica_command.specs.declared.types.ContainerProperty.{ContainerProperty}
 use Rattle.felica_command.specs.declared.types.ContainerProperty.TheVariants.{Property1, Property2, Unknown}
 use Rattle.felica_command.specs.declared.types.NodePropertyType.{NodePropertyType}
 use Rattle.felica_command.specs.declared.types.NodePropertyType.TheVariants.{ValueLimitedPurseService, MacCommunication}
-use Rattle.felica_command.specs.declared.types.NodePropertyByte.{NodePropertyByte}
-use Rattle.felica_command.specs.declared.types.NodePropertyByte.TheVariants.{Defined as DefinedProperty, Undefined as UndefinedProperty}
 use Rattle.felica_command.specs.declared.types.SetParameterEncryptionType.{SetParameterEncryptionType}
 use Rattle.felica_command.specs.declared.types.SetParameterEncryptionType.TheVariants.{SrmType1, SrmType2}
-use Rattle.felica_command.specs.declared.types.EncryptionByte.{EncryptionByte}
-use Rattle.felica_command.specs.declared.types.EncryptionByte.TheVariants.{Defined as DefinedEncryption, Undefined as UndefinedEncryption}
 use Rattle.felica_command.specs.declared.types.SetParameterPacketType.{SetParameterPacketType}
 use Rattle.felica_command.specs.declared.types.SetParameterPacketType.TheVariants.{NodeCodeSize2, NodeCodeSize4}
-use Rattle.felica_command.specs.declared.types.PacketByte.{PacketByte}
-use Rattle.felica_command.specs.declared.types.PacketByte.TheVariants.{Defined as DefinedPacket, Undefined as UndefinedPacket}
 
 -- "`ContainerProperty::Unknown` never comes out of parsing with 0 or 1."
 abbrev pub property_of : ℕ → ContainerProperty
@@ -32,23 +26,23 @@ abbrev pub node_property_byte : NodePropertyType → ℕ
 node_property_byte ValueLimitedPurseService = 0x00
 node_property_byte MacCommunication = 0x01
 
-abbrev pub node_property_type_of : ℕ → NodePropertyByte
-node_property_type_of b = cond (eqb b 0x00) (DefinedProperty ValueLimitedPurseService) (cond (eqb b 0x01) (DefinedProperty MacCommunication) UndefinedProperty)
+abbrev pub node_property_type_of : ℕ → Option NodePropertyType
+node_property_type_of b = cond (eqb b 0x00) (Some ValueLimitedPurseService) (cond (eqb b 0x01) (Some MacCommunication) None)
 
 -- "type 00 or 01, type 00 or 01" of 20
 abbrev pub encryption_byte : SetParameterEncryptionType → ℕ
 encryption_byte SrmType1 = 0x00
 encryption_byte SrmType2 = 0x01
 
-abbrev pub encryption_type_of : ℕ → EncryptionByte
-encryption_type_of b = cond (eqb b 0x00) (DefinedEncryption SrmType1) (cond (eqb b 0x01) (DefinedEncryption SrmType2) UndefinedEncryption)
+abbrev pub encryption_type_of : ℕ → Option SetParameterEncryptionType
+encryption_type_of b = cond (eqb b 0x00) (Some SrmType1) (cond (eqb b 0x01) (Some SrmType2) None)
 
 abbrev pub packet_byte : SetParameterPacketType → ℕ
 packet_byte NodeCodeSize2 = 0x00
 packet_byte NodeCodeSize4 = 0x01
 
-abbrev pub packet_type_of : ℕ → PacketByte
-packet_type_of b = cond (eqb b 0x00) (DefinedPacket NodeCodeSize2) (cond (eqb b 0x01) (DefinedPacket NodeCodeSize4) UndefinedPacket)
+abbrev pub packet_type_of : ℕ → Option SetParameterPacketType
+packet_type_of b = cond (eqb b 0x00) (Some NodeCodeSize2) (cond (eqb b 0x01) (Some NodeCodeSize4) None)
 
 -- an element of a block list
 abbrev pub element_is : BlockListElement → Element

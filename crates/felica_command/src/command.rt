@@ -1,24 +1,24 @@
-// The commands of command/mod.rs and the result of a parse.
+// The commands of command/mod.rs, what a parse gives beside one, and what it gives instead.
 ghost use Rattle.std.specs.Prelude.{◌≡◌};
-ghost use Rattle.std.proofs.Math.Option.{some, none};
-ghost use Rattle.felica_command.specs.Meaning.{fields_of, refused_by, refusal};
+ghost use Rattle.felica_command.specs.Meaning.{fields_of, refusal, bare};
 
 use crate::types::{
     ContainerProperty, NodeCode, NodePropertyType, ServiceCode, SetParameterEncryptionType,
     SetParameterPacketType,
 };
 use felica_format::constants as codes;
+use felica_format::error::Reason;
 
 // A list, the data or the package, named as a part of the payload: the place of its first byte, counted from the payload's first, and
 // how many entries it has (bytes, of data and package).
-#[derive(Clone, Copy)]
+#[derive(Clone, Copy, Debug, Default, PartialEq, Eq)]
 pub struct Part {
     pub start: usize,
     pub count: usize,
 }
 
 // The variants and fields of the Rust, in its order. IDm, challenges, issue id and issue parameter stand beside the command, in `Parsed`.
-#[derive(Clone, Copy)]
+#[derive(Clone, Copy, Debug, PartialEq, Eq)]
 pub enum FelicaStandardCommand {
     Polling {
         system_code: u16,
@@ -157,23 +157,38 @@ impl FelicaStandardCommand {
     }
 }
 
-// The number of document 01's table and, from 4 up, the command code.
-#[derive(Clone, Copy)]
-pub enum Refusal {
-    Number(u8),
-    OfCommand(u8, u8),
+// Why bytes are refused and, from 4 up, the command code.
+#[derive(Clone, Copy, Debug, PartialEq, Eq)]
+pub struct Refusal {
+    pub reason: Reason,
+    pub command_code: Option<u8>,
 }
 
-#[derive(Clone, Copy)]
-pub enum Answer {
-    Command(FelicaStandardCommand),
-    Refused(Refusal),
+impl Refusal {
+    pub fn of_command(reason: Reason, command_code: u8) -> Self
+        ensures { result ≡ refusal reason (Some command_code) }
+    {
+        Self {
+            reason,
+            command_code: Some(command_code),
+        }
+    }
+
+    // Before there is a command code: 1 to 3.
+    pub fn without_code(reason: Reason) -> Self
+        ensures { result ≡ refusal reason None }
+    {
+        Self {
+            reason,
+            command_code: None,
+        }
+    }
 }
 
-// The answer, with the arrays of the command and how many elements were long beside it. They are zero where the command lacks them and beside every refusal.
-#[derive(Clone, Copy)]
+// A command with its arrays, zero where it lacks them, and how many of its elements were long.
+#[derive(Clone, Copy, Debug, PartialEq, Eq)]
 pub struct Parsed {
-    pub answer: Answer,
+    pub command: FelicaStandardCommand,
     pub idm: [u8; 8],
     // 40 and 42: the challenge. 10 and 12: their challenge of 8 bytes, then eight zeros. 80: the issue id, then the issue parameter.
     pub challenge: [u8; 16],
@@ -181,28 +196,15 @@ pub struct Parsed {
 }
 
 impl Parsed {
-    fn refused_by(why: Refusal) -> Parsed
-        ensures { result ≡ refused_by why }
+    // Without IDm, challenge and long elements.
+    pub fn bare(command: FelicaStandardCommand) -> Self
+        ensures { result ≡ bare command }
     {
-        Parsed {
-            answer: Answer::Refused(why),
-            idm: [0u8; 8],
-            challenge: [0u8; 16],
+        Self {
+            command,
+            idm: [0; 8],
+            challenge: [0; 16],
             long: 0,
         }
-    }
-
-    // A refusal from 4 up.
-    pub fn refused(number: u8, command_code: u8) -> Parsed
-        ensures { result ≡ refusal number (some command_code) }
-    {
-        Parsed::refused_by(Refusal::OfCommand(number, command_code))
-    }
-
-    // A refusal before there is a command code: 1 to 3.
-    pub fn refused_without_code(number: u8) -> Parsed
-        ensures { result ≡ refusal number none }
-    {
-        Parsed::refused_by(Refusal::Number(number))
     }
 }

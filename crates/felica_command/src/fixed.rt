@@ -1,5 +1,5 @@
 // The fixed fields of a command, as the writer takes them. Those that the command lacks are zero.
-#[derive(Clone, Copy)]
+#[derive(Clone, Copy, Debug, Default, PartialEq, Eq)]
 pub struct Fixed {
     // Every plain command but 00, 2E and 70.
     pub idm: [u8; 8],

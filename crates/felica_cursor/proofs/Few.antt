@@ -1,8 +1,8 @@
--- The walk over few elements, by their first bytes alone.
+-- The walk over the elements of a block list, and the one over few of them, by their first bytes alone.
 -- Assumes nothing.
 use Prim.Native.Nat.{ℕ, suc, ◌+◌, ◌-◌, ◌*◌, ◌/◌, ◌<◌, ◌≤◌}
 use native.Mathlib.Omega.{arith}
-use mathlib.Core.Path.{◌≡◌, refl, sym, ap, ◌∙◌}
+use mathlib.Core.Path.{◌≡◌, refl, sym, ap, ◌∙◌, subst}
 use mathlib.Core.Logic.{◌⊎◌, inl, inr}
 use mathlib.Core.Bool.{Bool, true, false, cond}
 use mathlib.Core.List.{List, [], ◌∷◌, ◌++◌}
@@ -15,7 +15,14 @@ use Rattle.felica_format.specs.Read.{element_of, formed, read_count, read_elemen
 use Rattle.felica_format.proofs.Elements.{long_few}
 use Rattle.felica_format.proofs.Steps.{none_taken, taken_value, refuse_if_passed, refuse_if_taken}
 use Rattle.felica_format.proofs.Tests.{or_none}
+use Rattle.std.specs.Prelude.{Ok}
+use Rattle.felica_command.specs.Meaning.{part}
 use Rattle.felica_command.specs.Places.{element_size, elements_size}
+use Rattle.felica_command.proofs.Inside.{each_leaves}
+use Rattle.felica_cursor.specs.Taken.{rest, moved, Takes}
+use Rattle.felica_cursor.specs.Steps.{elements_in, ElementsFrom}
+use Rattle.felica_cursor.specs.declared.cursor.Blocks.{Blocks}
+use Rattle.felica_cursor.specs.declared.cursor.Cursor.{Cursor}
 use Rattle.felica_cursor.proofs.Blocks.{before, before_none, each_more, each_refused, each_done, long_more}
 use Rattle.felica_cursor.proofs.Laws.{front_at, at_front_2, at_front_3, long_cut, size_more, size_done}
 
@@ -88,11 +95,14 @@ Lacking s start count at = (at ≡ length s + 1) × (read_each count (drop start
 abbrev pub Walk : List ℕ → ℕ → ℕ → ℕ → ℕ → Type 0
 Walk s start count at left = ((at ≤ length s) × Walked s start count at left) ⊎ Lacking s start count at
 
-pub walk_none : (s : List ℕ) (start count : ℕ) → start ≤ length s → Walk s start count start count
-walk_none s start count h = inl (h, ([], before_none _, omega arith, omega arith, refl))
+pub walked_none : (s : List ℕ) (start count left : ℕ) → left ≡ count → Walked s start count start left
+walked_none s start count left e = rw e ([], before_none _, omega arith, omega arith, refl)
+
+pub walk_none : (s : List ℕ) (start count left : ℕ) → left ≡ count → start ≤ length s → Walk s start count start left
+walk_none s start count left e h = inl (h, walked_none s start count left e)
 
 module _ (s : List ℕ) (start count at left n : ℕ) (more : left ≡ suc n) where
-  walked_more : (f : Formed) (next : ℕ) → Walked s start count at left → read_element (drop at s) ≡ taken f (drop next s)
+  pub walked_more : (f : Formed) (next : ℕ) → Walked s start count at left → read_element (drop at s) ≡ taken f (drop next s)
       → next ≡ at + element_size (get_or s at 0) → next ≡ at + 2 + cond f.long 1 0 → Walked s start count next n
   walked_more f next (done, read, size, many, reach) took placed form =
       let long = long_more done f in
@@ -131,11 +141,13 @@ module _ (s : List ℕ) (start count at left n : ℕ) (more : left ≡ suc n) wh
   walk_cut r few behind here (inl (inside, walked)) = walked.1 ∙ each_refused walked.0 left n r (drop at s) more (here inside)
 
 -- all elements: what was read, how far they reach and how many were long
-pub walk_done : (s : List ℕ) (start count at left : ℕ) → left ≡ 0 → at ≤ length s → Walk s start count at left
-    → (done : List Formed) × (read_each count (drop start s) ≡ taken done (drop at s)) × (at ≡ start + (2 * count + long_count done))
+abbrev pub Done : List ℕ → ℕ → ℕ → ℕ → Type 0
+Done s start count at =
+    (done : List Formed) × (read_each count (drop start s) ≡ taken done (drop at s)) × (at ≡ start + (2 * count + long_count done))
     × (long_count done ≤ count) × (at ≡ start + elements_size count (drop start s))
-walk_done s start count at left none inside (inr (end, read)) = absurd (omega arith)
-walk_done s start count at left none inside (inl (here, (done, read, size, many, reach))) =
+
+pub walked_done : (s : List ℕ) (start count at left : ℕ) → left ≡ 0 → Walked s start count at left → Done s start count at
+walked_done s start count at left none (done, read, size, many, reach) =
     let few = long_few done in (
       done,
       read ∙ each_done done left (drop at s) none,
@@ -144,6 +156,26 @@ walk_done s start count at left none inside (inl (here, (done, read, size, many,
       sym (reach ∙ size_done s at left none),
     )
 
+pub walk_done : (s : List ℕ) (start count at left : ℕ) → left ≡ 0 → at ≤ length s → Walk s start count at left → Done s start count at
+walk_done s start count at left none inside (inr (end, read)) = absurd (omega arith)
+walk_done s start count at left none inside (inl (here, walked)) = walked_done s start count at left none walked
+
 pub walk_lacks : (s : List ℕ) (start count at left : ℕ) → length s < at → Walk s start count at left → read_each count (drop start s) ≡ refuse 16
 walk_lacks s start count at left beyond (inr (end, read)) = read
 walk_lacks s start count at left beyond (inl (here, walked)) = absurd (omega arith)
+
+-- a cursor in the same payload, and an element taken there
+pub cursor_in : (c d : Cursor) → d.payload ≡ c.payload → d ≡ record c { at = d.at }
+cursor_in c d same = ap (λ p. record d { payload = p }) same
+
+pub element_in : (c d b : Cursor) (f : Formed) (n : ℕ) → d.payload ≡ c.payload → b ≡ moved d n → read_element (rest d) ≡ taken f (rest b)
+    → read_element (drop d.at c.payload.now) ≡ taken f (drop b.at c.payload.now)
+element_in c d b f n same is e =
+    subst (λ p. read_element (drop d.at p.now) ≡ taken f (drop b.at p.now)) same (e ∙ ap (λ p. taken f (drop b.at p.now)) (ap (λ (x : Cursor). x.payload) is))
+
+-- what such a walk answers
+pub done_takes : (c : Cursor) (count at : ℕ) (b : Blocks) → b ≡ record { list = part c.at count; long = at - c.at - 2 * count } → Done c.payload.now c.at count at
+    → Takes (elements_in c.payload.now) (read_each count (rest c)) (ElementsFrom c) (Ok (b, record c { at = at }))
+done_takes c count at b is (done, read, size, few, reach) =
+    let long : at - c.at - 2 * count ≡ long_count done = omega (arith, size) in
+    rw is (record { read = rw read; placed = (refl, rw read (each_leaves _ _ _ _ read).1, ap (λ (k : ℕ). record c { at = k }) reach, rw read long) })

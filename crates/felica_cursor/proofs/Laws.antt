@@ -5,22 +5,27 @@ use mathlib.Core.Bool.{Bool, true, false, not}
 use mathlib.Core.List.{List, [], ◌∷◌}
 use Prim.Native.Nat.{ℕ, zero, suc, ◌+◌, ◌-◌, ◌<◌, ◌≤◌}
 use native.Mathlib.Numerals.{add-one}
-use native.Mathlib.Nat.{zero-add, sub-zero, add-zero, add-suc}
+use native.Mathlib.Nat.{add-zero, add-suc}
 use native.Mathlib.Omega.{arith}
-use lib.Dec.{ltb, leb}
-use lib.ListN.{length, get_or, drop, length-drop, set, length-replicate, replicate-append-replicate}
-use lib.Seq.{drop-cons, drop-drop, paste, paste-suc, get_or-drop, drop_at}
-use borrow.Author.Tests.{ltb-false, leb-true, leb-false, lt-ltb, le-ltb, ne_eqb}
+use Rattle.std.specs.List.{list_all}
+use Rattle.std.specs.Prelude.{◌&&◌}
+use lib.Dec.{ltb, leb, eqb}
+use lib.ListN.{length, get_or, take, drop, length-drop, length-replicate, replicate-append-replicate}
+use lib.Seq.{drop-cons, drop-drop, get_or-drop, drop_at}
+use borrow.Author.Tests.{ltb-false, leb-true, leb-false, lt-ltb, le-ltb}
 use Rattle.felica_format.specs.Basic.{Step, taken, refuse, refuse_if, zeros, word_of, word_at, ◌and◌}
 use Rattle.felica_format.specs.Command.{end_fields, no_fields}
 use Rattle.felica_format.specs.Layout.{Ending, bare, polling, nothing}
 use Rattle.felica_format.specs.Read.{words_of, read_long, read_short, read_ending, read_values, size_of, zero_at, is_time_slots}
 use Rattle.felica_format.proofs.Steps.{none_taken}
 use Rattle.felica_command.specs.Places.{element_size, elements_size}
-use Rattle.felica_cursor.specs.Answers.{as_step, MovesTo, moved_with}
-use Rattle.felica_cursor.specs.Steps.{measured}
-use Rattle.felica_cursor.specs.declared.answers.Moved.{Moved}
-use Rattle.felica_cursor.specs.declared.answers.Moved.TheVariants.{On, Refused as MovedRefused}
+use Rattle.std.specs.Prelude.{Result, Ok, Err}
+use Rattle.felica_format.specs.Reasons.{number_of}
+use Rattle.felica_format.specs.declared.error.Reason.{Reason}
+use Rattle.felica_cursor.specs.Taken.{rest, Takes, To}
+use Rattle.felica_cursor.specs.Steps.{measured, Measured}
+use Rattle.felica_cursor.specs.Endings.{as_size, nothing_is}
+use Rattle.felica_cursor.specs.declared.cursor.Cursor.{Cursor}
 
 -- the bytes left at a position, where there are one, two or three
 pub front_at : (s : List ℕ) (at : ℕ) → at < length s → drop at s ≡ get_or s at 0 ∷ drop (at + 1) s
@@ -59,36 +64,24 @@ pub size_done : (s : List ℕ) (at k : ℕ) → k ≡ 0 → at + elements_size k
 unfolding elements_size
 size_done s at k p = rw p (add-zero at)
 
--- a turn of a loop that copies the bytes at a place to the front of d
-pub paste_more : (d s : List ℕ) (at : ℕ) (out : List ℕ) (i : ℕ) → i < length d → at + i < length s → out ≡ paste d 0 (drop at s) i
-    → set out i (get_or s (at + i) 0) ≡ paste d 0 (drop at s) (i + 1)
-paste_more d s at out i hd hs e =
-    let l : i < length (drop at s) = simp length-drop (omega arith) in
-    rw (e, add-one, ← get_or-drop at s i 0)
-    (ap (λ (k : ℕ). set (paste d 0 (drop at s) i) k (get_or (drop at s) i 0)) (sym (zero-add i)) ∙ paste-suc d 0 (drop at s) i 0 (rw zero-add hd) l)
-
 pub drop_zeros : (k n : ℕ) → k ≤ n → drop k (zeros n) ≡ zeros (n - k)
 drop_zeros k n h =
     let e : k + (n - k) ≡ n = omega arith in
     ap (λ (m : ℕ). drop k (zeros m)) (sym e) ∙ ap (drop k) (sym (replicate-append-replicate k (n - k) 0)) ∙
     drop_at (zeros k) (zeros (n - k)) k (length-replicate k 0)
 
--- bytes that are all 00, one after the other
-pub zero_start : (s : List ℕ) (at n : ℕ) → zero_at n s at ≡ zero_at (n - 0) s (at + 0)
-zero_start s at n = rw (sub-zero, add-zero)
-
-pub zero_more : (s : List ℕ) (at n i : ℕ) → i < n → get_or s (at + i) 0 ≡ 0 → zero_at (n - i) s (at + i) ≡ zero_at (n - (i + 1)) s (at + (i + 1))
+-- bytes that are all 00
+pub zero_all : (n at : ℕ) (s : List ℕ) → at + n ≤ length s → list_all (λ b. eqb b 0) (take n (drop at s)) ≡ zero_at n s at
 unfolding ◌and◌
-zero_more s at n i h z =
-    let p : n - i ≡ suc (n - (i + 1)) = omega arith in
-    let q : suc (at + i) ≡ at + (i + 1) = omega arith in
-    rw (p, z) (ap (zero_at (n - (i + 1)) s) q)
-
-pub zero_not : (s : List ℕ) (at n i : ℕ) → i < n → (get_or s (at + i) 0 ≡ 0 → ⊥) → zero_at (n - i) s (at + i) ≡ false
-unfolding ◌and◌
-zero_not s at n i h z =
-    let p : n - i ≡ suc (n - (i + 1)) = omega arith in
-    rw (p, ne_eqb _ _ z)
+zero_all zero at s h = refl
+zero_all (suc n) at s h =
+    let rest = zero_all n (at + 1) s (omega arith) in
+    rw (front_at s at (omega arith)) (go (eqb (get_or s at 0) 0) rest)
+  where
+    go : (b : Bool) → list_all (λ b. eqb b 0) (take n (drop (at + 1) s)) ≡ zero_at n s (at + 1)
+        → (b && list_all (λ b. eqb b 0) (take n (drop (at + 1) s))) ≡ (b and zero_at n s (suc at))
+    go true e = e ∙ ap (zero_at n s) (add-one at)
+    go false e = refl
 
 pub zero_drop : (n at i : ℕ) (s : List ℕ) → zero_at n (drop at s) i ≡ zero_at n s (at + i)
 unfolding ◌and◌
@@ -149,19 +142,16 @@ measured_rest n l v r h =
     let e : taken n l ≡ taken v r = sym t.2 ∙ h in
     cc
 
-pub end_measured : (s l : List ℕ) (r : Moved) → measured 0 l ≡ as_step s (moved_with 0 r) → read_ending bare nothing l ≡ as_step s (moved_with no_fields r)
+pub end_measured : (c : Cursor) (r : Result (Unit {0} × Cursor) Reason) → Takes (as_size 0) (measured 0 (rest c)) (Measured c 0) r
+    → Takes nothing_is (read_ending bare nothing (rest c)) (To c) r
 unfolding read_values
-end_measured s l (On c) h = ending_taken bare l 0 (drop c.at s) h ∙ ap (λ (x : List ℕ). taken no_fields x) (sym (measured_rest 0 l 0 (drop c.at s) h))
-end_measured s l (MovedRefused n) h = ending_refused bare l n h
+end_measured c (Ok p) t =
+    record { read = ending_taken bare (rest c) 0 (rest p.1) t.read ∙ ap (λ (x : List ℕ). taken no_fields x) (sym (measured_rest 0 (rest c) 0 (rest p.1) t.read)); placed = t.placed.0 }
+end_measured c (Err why) t = record { read = ending_refused bare (rest c) (number_of why) t.read; placed = tt }
 
 -- bytes that were measured, some of them, stand from their place to the end
 pub measured_fits : (s : List ℕ) (at n : ℕ) {v : ℕ} {r : List ℕ} → measured n (drop at s) ≡ taken v r → 0 < n → at + n ≡ length s
 measured_fits s at n {v} {r} h p = omega (arith, simp length-drop at (measured_size n (drop at s) v r h))
-
--- the position does not depend on what was taken
-pub moved_alike : {A B : Type 0} (n : ℕ) (v : A) (w : B) (r : Moved) → MovesTo n (moved_with v r) → MovesTo n (moved_with w r)
-moved_alike n v w (On c) h = h
-moved_alike n v w (MovedRefused g) h = tt
 
 pub ltb_not_leb : (a b : ℕ) → ltb b a ≡ not (leb a b)
 ltb_not_leb a b = go (leb a b) refl

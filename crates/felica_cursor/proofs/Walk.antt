@@ -5,27 +5,21 @@ use native.Mathlib.Omega.{arith}
 use mathlib.Core.Path.{◌≡◌, refl, sym, ap, ◌∙◌}
 use mathlib.Core.Bool.{true, false}
 use mathlib.Core.List.{List, [], map}
-use mathlib.Core.Option.{some}
-use lib.ListN.{length, drop}
+use lib.ListN.{length}
 use borrow.Author.Tests.{le-ltb}
 use Rattle.felica_format.specs.Basic.{Step, taken, refuse, bind, refuse_if, zeros}
-use Rattle.felica_format.specs.Command.{Command, Formed, long_count, EndFields, end_fields, command_of, no_fields}
+use Rattle.felica_format.specs.Command.{Command, Formed, long_count, command_of, no_fields}
 use Rattle.felica_format.specs.Layout.{no_selector, no_codes, bare, nothing, ignored_bytes, a_package, Layout, layout_of}
 use Rattle.felica_format.specs.Read.{read_idm, read_selector, read_codes, read_elements, read_data, read_ending, read_values, read_package, if_codes, counted, read_body}
 use Rattle.felica_command.specs.Types.{property_of, property_index}
-use Rattle.felica_command.specs.Meaning.{Fields, fields_of, command_is, refusal}
+use Rattle.felica_command.specs.Meaning.{Fields, fields_of, command_is}
 use Rattle.felica_command.specs.Places.{places_in, layout_places}
-use Rattle.felica_command.specs.declared.command.Answer.TheVariants.{Command as AnswerCommand}
-use Rattle.felica_command.specs.declared.command.FelicaStandardCommand.{FelicaStandardCommand}
+use Rattle.std.specs.Prelude.{Result, Ok, Err}
+use Rattle.felica_format.specs.Reasons.{number_of}
+use Rattle.felica_format.specs.declared.error.Reason.{Reason}
+use Rattle.felica_cursor.specs.Taken.{rest}
+use Rattle.felica_cursor.specs.declared.cursor.Cursor.{Cursor}
 use Rattle.felica_command.specs.declared.command.Parsed.{Parsed}
-use Rattle.felica_cursor.specs.Answers.{as_step, moved_with, byte_taken, property_type_taken, word_taken, words_taken, polling_taken, parameter_taken}
-use Rattle.felica_cursor.specs.declared.answers.Moved.{Moved}
-use Rattle.felica_cursor.specs.declared.answers.ByteTaken.{ByteTaken}
-use Rattle.felica_cursor.specs.declared.answers.PropertyTypeTaken.{PropertyTypeTaken}
-use Rattle.felica_cursor.specs.declared.answers.WordTaken.{WordTaken}
-use Rattle.felica_cursor.specs.declared.answers.WordsTaken.{WordsTaken}
-use Rattle.felica_cursor.specs.declared.answers.PollingTaken.{PollingTaken}
-use Rattle.felica_cursor.specs.declared.answers.ParameterTaken.{ParameterTaken}
 use Rattle.felica_cursor.specs.Body.{BodyRead}
 
 pub on : {A B : Type 0} {x : Step A} {a : A} {r : List ℕ} {y : Step B} (k : A → List ℕ → Step B) → x ≡ taken a r → k a r ≡ y → bind x k ≡ y
@@ -92,39 +86,15 @@ pub data_counted : (es : List Formed) (n : ℕ) (l : List ℕ) {x : Step (List �
 data_counted es n l e h = rw e h
 
 -- a body that is refused
-pub refused_at : (s : List ℕ) (at code n g : ℕ) (l : Layout) (r : Parsed) → layout_of code ≡ l → read_body code l (drop at s) ≡ refuse n
-    → g ≡ n → r ≡ refusal g (some code) → BodyRead s at code r
-refused_at s at code n g l r is walk ground e = rw (e, ground, is, walk) (refl, refl, (refl, refl, refl))
+pub refused_at : (from : Cursor) (code : ℕ) (l : Layout) (why : Reason) {r : Result Parsed Reason} → layout_of code ≡ l → read_body code l (rest from) ≡ refuse (number_of why)
+    → r ≡ Err why → BodyRead from code r
+refused_at from code l why is walk e = rw (e, is, walk) (refl, refl, tt)
 
 -- a body that is accepted
-pub accepted_at : (s : List ℕ) (at code : ℕ) (l : Layout) (kind : FelicaStandardCommand) (f : Fields) (idm challenge : List ℕ) (long n : ℕ) (rest : List ℕ) (c : Command)
-    → long ≡ n → layout_of code ≡ l → fields_of kind ≡ f → read_body code l (drop at s) ≡ taken (counted c n) rest → command_is s idm challenge f ≡ c → c.code ≡ code
-    → places_in f ≡ layout_places l at s c → f.property ≡ property_of (property_index f.property)
-    → BodyRead s at code (record { answer = AnswerCommand kind; idm = idm; challenge = challenge; long = long })
-accepted_at s at code l kind f idm challenge long n rest c count is fields walk meant coded placed property =
-    rw (is, walk, fields) (rw (meant, count) refl, placed ∙ ap (λ (k : Layout). layout_places k at s c) (sym (ap layout_of coded ∙ is)), property)
-
--- what an answer says, as a step on the bytes s
-abbrev pub idm_step : List ℕ → List ℕ → Moved → Step (List ℕ)
-idm_step s idm x = as_step s (moved_with idm x)
-
-abbrev pub end_step : List ℕ → List ℕ → Moved → Step EndFields
-end_step s challenge x = as_step s (moved_with (end_fields 0 0 0 0 challenge) x)
-
-abbrev pub byte_step : List ℕ → ByteTaken → Step ℕ
-byte_step s x = as_step s (byte_taken x)
-
-abbrev pub property_type_step : List ℕ → PropertyTypeTaken → Step ℕ
-property_type_step s x = as_step s (property_type_taken x)
-
-abbrev pub word_step : List ℕ → WordTaken → Step EndFields
-word_step s x = as_step s (word_taken x)
-
-abbrev pub words_step : List ℕ → WordsTaken → Step EndFields
-words_step s x = as_step s (words_taken x)
-
-abbrev pub polling_step : List ℕ → PollingTaken → Step EndFields
-polling_step s x = as_step s (polling_taken x)
-
-abbrev pub parameter_step : List ℕ → ParameterTaken → Step EndFields
-parameter_step s x = as_step s (parameter_taken x)
+pub accepted_at : (from : Cursor) (code : ℕ) (l : Layout) (p : Parsed) (f : Fields) (n : ℕ) (left : List ℕ) (c : Command) {r : Result Parsed Reason}
+    → r ≡ Ok p → p.long ≡ n → layout_of code ≡ l → fields_of p.command ≡ f → read_body code l (rest from) ≡ taken (counted c n) left
+    → command_is from.payload.now p.idm p.challenge f ≡ c → c.code ≡ code → places_in f ≡ layout_places l from.at from.payload.now c
+    → f.property ≡ property_of (property_index f.property) → BodyRead from code r
+accepted_at from code l p f n left c e count is fields walk meant coded placed property =
+    rw (e, is, walk, fields)
+    (rw (meant, count) refl, placed ∙ ap (λ (k : Layout). layout_places k from.at from.payload.now c) (sym (ap layout_of coded ∙ is)), property)

@@ -1,4 +1,5 @@
 -- What the answers of the steps say, and what a walk along them gives.
-pub mod Answers
+pub mod Taken
 pub mod Steps
+pub mod Endings
 pub mod Body

@@ -1,36 +1,89 @@
-// A position in a payload, and the steps in front of the fixed bytes that end a layout. Each takes its bytes and hands the position back moved on, or refuses.
+// A position in a payload, and the steps in front of the fixed bytes that end a layout. Each takes its bytes and hands the position back moved on, or says why it refuses.
 // A position may be any number: from the payload's end on, nothing is left.
-ghost use Rattle.std.specs.Prelude.{◌≡◌, true, length, take, drop, ◌+◌, ◌-◌, ◌*◌, ◌≤◌, ◌<◌};
+ghost use Rattle.std.specs.Prelude.{◌≡◌, true, length, drop, get_or, ◌+◌, ◌-◌, ◌*◌, ◌≤◌, ◌<◌};
 ghost use Rattle.felica_format.specs.Basic.{refuse, word_of};
 ghost use Rattle.felica_format.specs.Layout.{◌to◌, type_byte, any_byte, bounds_at};
+ghost use Rattle.felica_format.specs.Reasons.{number_of};
 ghost use Rattle.felica_format.specs.Read.{element_of, read_idm, read_selector, read_count, read_words, read_codes, read_element, read_each, read_elements, read_data};
+ghost use Rattle.felica_command.specs.Meaning.{codes_at, bytes_at};
 ghost use Rattle.felica_command.specs.Places.{element_size};
-ghost use Rattle.felica_command.specs.Types.{element_is};
-ghost use Rattle.felica_cursor.specs.Answers.{as_step, MovesTo, idm_taken, byte_taken, property_type_taken};
-ghost use Rattle.felica_cursor.specs.Steps.{IdmZero, codes_taken, CodesPlaced, element_taken, ElementPlaced, elements_taken};
-ghost use Rattle.felica_cursor.specs.Steps.{ElementsPlaced, data_taken, DataPlaced};
+ghost use Rattle.felica_command.specs.Types.{element_is, node_property_byte};
+ghost use Rattle.felica_cursor.specs.Taken.{rest, moved, itself, as_step, Takes, To};
+ghost use Rattle.felica_cursor.specs.Steps.{formed_is, elements_in, CodesFrom, ElementsFrom, DataFrom};
 
-use crate::answers::{
-    BlocksTaken, ByteTaken, ElementTaken, IdmTaken, ListTaken, Moved, PropertyTypeTaken,
-};
 use felica_command::command::Part;
-use felica_command::types::{BlockListElement, BlockNumber, NodePropertyByte, NodePropertyType};
-use felica_format::constants::bounds_at;
-use felica_format::{constants, error};
+use felica_command::types::{BlockListElement, BlockNumber, NodePropertyType};
+use felica_format::constants;
+use felica_format::constants::{Bounds, bounds_at};
+use felica_format::error::Reason;
 
 // A list of so many elements is walked by `take_elements`, a shorter one by `take_few`.
 const MANY: u8 = 8;
 
 #[derive(Clone, Copy)]
-pub struct Cursor {
+pub struct Cursor<'a> {
+    pub payload: &'a [u8],
     pub at: usize,
 }
+
+// What a step took, with the position behind it.
+pub type Taken<'a, T> = Result<(T, Cursor<'a>), Reason>;
+
+// An element, and whether its form was the long one.
+#[derive(Clone, Copy, Debug, PartialEq, Eq)]
+pub struct FormedElement {
+    pub element: BlockListElement,
+    pub long: bool,
+}
+
+// A block list, and how many of its elements were long.
+#[derive(Clone, Copy, Debug, PartialEq, Eq)]
+pub struct Blocks {
+    pub list: Part,
+    pub long: u8,
+}
+
+impl Blocks {
+    // So many elements between two places. The bytes that they take tell how many are long: a short one has two, a long one three.
+    fn between(start: usize, at: usize, count: u8) -> Self
+        requires { (start + 2 * count ≤ at) × (at ≤ start + 3 * count) }
+        ensures { result ≡ record { list = record { start = start; count = count }; long = at - start - 2 * count } }
+    {
+        let count = count as usize;
+        Self {
+            list: Part { start, count },
+            long: (at - start - 2 * count) as u8,
+        }
+    }
+}
+
+// Why a count is refused.
+#[derive(Clone, Copy, Debug, PartialEq, Eq)]
+pub struct CountReasons {
+    pub missing: Reason,
+    pub out_of_range: Reason,
+}
+
+pub const FIRST_COUNT: CountReasons = CountReasons {
+    missing: Reason::FirstCountMissing,
+    out_of_range: Reason::FirstCountOutOfRange,
+};
+
+pub const SECOND_COUNT: CountReasons = CountReasons {
+    missing: Reason::SecondCountMissing,
+    out_of_range: Reason::SecondCountOutOfRange,
+};
+
+const BLOCK_COUNTS: Bounds = Bounds {
+    least: constants::MIN_BLOCK_COUNT,
+    greatest: constants::MAX_BLOCK_COUNT,
+};
 
 // A two-byte number, low byte first.
 pub fn word_of(low: u8, high: u8) -> u16
     ensures { result ≡ word_of low high }
 {
-    (low as u16) + 256 * (high as u16)
+    u16::from_le_bytes([low, high])
 }
 
 fn element(header: u8, number: u16) -> BlockListElement
@@ -43,348 +96,235 @@ fn element(header: u8, number: u16) -> BlockListElement
     }
 }
 
-// The 8 bytes at a place.
-fn idm_at(payload: &[u8], at: usize) -> [u8; 8]
-    requires { at + 8 ≤ length payload.now }
-    ensures { result ≡ take 8 (drop at payload.now) }
-{
-    let mut idm = [0u8; 8];
-    let mut i: usize = 0;
-    while i < constants::IDM_LEN {
-        idm[i] = payload[at + i];
-        i += 1;
-    }
-    idm
-}
-
-impl Cursor {
+impl<'a> Cursor<'a> {
     // How many bytes are left.
-    pub fn left(self, payload: &[u8]) -> usize
-        ensures { result ≡ length (drop self.at payload.now) }
+    pub fn left(self) -> usize
+        ensures { result ≡ length (rest self.entry) }
     {
-        let at = self.at;
-        if payload.len() <= at {
-            0
-        } else {
-            payload.len() - at
-        }
+        self.payload.len().saturating_sub(self.at)
     }
 
     // parse_idm
-    pub fn take_idm(self, payload: &[u8]) -> IdmTaken
-        ensures { (read_idm true (drop self.at payload.now) ≡ as_step payload.now (idm_taken result)) × MovesTo (self.at + 8) (idm_taken result) × IdmZero result }
+    pub fn take_idm(self) -> Taken<'a, [u8; 8]>
+        ensures { Takes itself (read_idm true (rest self.entry)) (To (moved self.entry 8)) result }
     {
-        let at = self.at;
-        let left = self.left(payload);
-        if left < constants::IDM_LEN {
-            return IdmTaken {
-                step: Moved::Refused(error::IDM_MISSING),
-                idm: [0u8; 8],
-            };
+        if self.left() < constants::IDM_LEN {
+            return Err(Reason::IdmMissing);
         }
-        let idm = idm_at(payload, at);
-        IdmTaken {
-            step: Moved::On(Cursor {
-                at: at + constants::IDM_LEN,
-            }),
-            idm: idm,
-        }
-    }
-
-    // The type byte of Get Node Property.
-    pub fn take_node_property_type(self, payload: &[u8]) -> PropertyTypeTaken
-        ensures { (read_selector type_byte (drop self.at payload.now) ≡ as_step payload.now (property_type_taken result)) × MovesTo (self.at + 1) (property_type_taken result) }
-    {
-        let at = self.at;
-        if payload.len() <= at {
-            return PropertyTypeTaken::Refused(error::TOO_SHORT);
-        }
-        let value = NodePropertyType::from_byte(payload[at]);
-        let NodePropertyByte::Defined(node_property_type) = value else {
-            return PropertyTypeTaken::Refused(error::FIRST_TYPE_UNDEFINED);
-        };
-        PropertyTypeTaken::Property(node_property_type, Cursor { at: at + 1 })
+        let end = self.at + constants::IDM_LEN;
+        let mut idm = [0; constants::IDM_LEN];
+        idm.copy_from_slice(&self.payload[self.at..end]);
+        Ok((idm, Cursor { at: end, ..self }))
     }
 
     // The operation parameter of Authentication1 v2, any byte.
-    pub fn take_operation_parameter(self, payload: &[u8]) -> ByteTaken
-        ensures { (read_selector any_byte (drop self.at payload.now) ≡ as_step payload.now (byte_taken result)) × MovesTo (self.at + 1) (byte_taken result) }
+    pub fn take_operation_parameter(self) -> Taken<'a, u8>
+        ensures { Takes itself (read_selector any_byte (rest self.entry)) (To (moved self.entry 1)) result }
     {
-        let at = self.at;
-        if payload.len() <= at {
-            return ByteTaken::Refused(error::TOO_SHORT);
+        if self.payload.len() <= self.at {
+            return Err(Reason::TooShort);
         }
-        ByteTaken::Byte(payload[at], Cursor { at: at + 1 })
+        let at = self.at + 1;
+        Ok((self.payload[self.at], Cursor { at, ..self }))
     }
 
-    fn take_between(
-        self,
-        payload: &[u8],
-        least: u8,
-        greatest: u8,
-        missing: u8,
-        out_of_range: u8,
-    ) -> ByteTaken
-        ensures { (read_count missing out_of_range least greatest (drop self.at payload.now) ≡ as_step payload.now (byte_taken result)) × MovesTo (self.at + 1) (byte_taken result) }
+    // The type byte of Get Node Property.
+    pub fn take_node_property_type(self) -> Taken<'a, NodePropertyType>
+        ensures { Takes node_property_byte (read_selector type_byte (rest self.entry)) (To (moved self.entry 1)) result }
     {
-        let at = self.at;
-        if payload.len() <= at {
-            return ByteTaken::Refused(missing);
+        let (byte, behind) = self.take_operation_parameter()?;
+        let Some(node_property_type) = NodePropertyType::from_byte(byte) else {
+            return Err(Reason::FirstTypeUndefined);
+        };
+        Ok((node_property_type, behind))
+    }
+
+    fn take_between(self, bounds: Bounds, reasons: CountReasons) -> Taken<'a, u8>
+        ensures { Takes itself (read_count (number_of reasons.missing) (number_of reasons.out_of_range) bounds.least bounds.greatest (rest self.entry)) (To (moved self.entry 1)) result }
+    {
+        if self.payload.len() <= self.at {
+            return Err(reasons.missing);
         }
-        let count = payload[at];
-        if count < least {
-            return ByteTaken::Refused(out_of_range);
+        let count = self.payload[self.at];
+        if count < bounds.least || bounds.greatest < count {
+            return Err(reasons.out_of_range);
         }
-        if greatest < count {
-            return ByteTaken::Refused(out_of_range);
-        }
-        ByteTaken::Byte(count, Cursor { at: at + 1 })
+        let at = self.at + 1;
+        Ok((count, Cursor { at, ..self }))
     }
 
     // The count of a list of codes, within the bounds that a plain code's row has.
-    pub fn take_count(self, payload: &[u8], row: usize, missing: u8, out_of_range: u8) -> ByteTaken
-        ensures { (read_count missing out_of_range (bounds_at row).least (bounds_at row).greatest (drop self.at payload.now) ≡ as_step payload.now (byte_taken result)) × MovesTo (self.at + 1) (byte_taken result) }
+    pub fn take_count(self, row: usize, reasons: CountReasons) -> Taken<'a, u8>
+        ensures { Takes itself (read_count (number_of reasons.missing) (number_of reasons.out_of_range) (bounds_at row).least (bounds_at row).greatest (rest self.entry)) (To (moved self.entry 1)) result }
     {
-        let bounds = bounds_at(row);
-        self.take_between(
-            payload,
-            bounds.least,
-            bounds.greatest,
-            missing,
-            out_of_range,
-        )
+        self.take_between(bounds_at(row), reasons)
     }
 
-    pub fn take_block_count(self, payload: &[u8], missing: u8, out_of_range: u8) -> ByteTaken
-        ensures { (read_count missing out_of_range 1 255 (drop self.at payload.now) ≡ as_step payload.now (byte_taken result)) × MovesTo (self.at + 1) (byte_taken result) }
+    pub fn take_block_count(self, reasons: CountReasons) -> Taken<'a, u8>
+        ensures { Takes itself (read_count (number_of reasons.missing) (number_of reasons.out_of_range) 1 255 (rest self.entry)) (To (moved self.entry 1)) result }
     {
-        self.take_between(
-            payload,
-            constants::MIN_BLOCK_COUNT,
-            constants::MAX_BLOCK_COUNT,
-            missing,
-            out_of_range,
-        )
+        self.take_between(BLOCK_COUNTS, reasons)
     }
 
     // parse_u16_list_le: the codes behind their count.
-    pub fn take_u16s(self, payload: &[u8], count: u8) -> ListTaken
-        ensures { (read_words count (drop self.at payload.now) ≡ codes_taken payload.now result) × CodesPlaced self.at result }
+    pub fn take_u16s(self, count: u8) -> Taken<'a, Part>
+        ensures { Takes (codes_at self.entry.payload.now) (read_words count (rest self.entry)) (CodesFrom self.entry) result }
     {
         let start = self.at;
-        let left = self.left(payload);
         let count = count as usize;
-        if left < 2 * count {
-            return ListTaken::Refused(error::CODE_LIST_TRUNCATED);
+        if self.left() < 2 * count {
+            return Err(Reason::CodeListTruncated);
         }
-        ListTaken::List(
-            Part {
-                start: start,
-                count: count,
-            },
-            Cursor {
-                at: start + 2 * count,
-            },
-        )
+        let at = start + 2 * count;
+        Ok((Part { start, count }, Cursor { at, ..self }))
     }
 
     // take_u16_list and take_service_code_list
-    pub fn take_u16_list(
-        self,
-        payload: &[u8],
-        row: usize,
-        missing: u8,
-        out_of_range: u8,
-    ) -> ListTaken
-        ensures { (read_codes missing out_of_range ((bounds_at row).least to (bounds_at row).greatest) (drop self.at payload.now) ≡ codes_taken payload.now result) × CodesPlaced (self.at + 1) result }
+    pub fn take_u16_list(self, row: usize, reasons: CountReasons) -> Taken<'a, Part>
+        ensures { Takes (codes_at self.entry.payload.now) (read_codes (number_of reasons.missing) (number_of reasons.out_of_range) ((bounds_at row).least to (bounds_at row).greatest) (rest self.entry)) (CodesFrom (moved self.entry 1)) result }
     {
-        let counted = self.take_count(payload, row, missing, out_of_range);
-        let ByteTaken::Byte(count, cursor) = counted else {
-            return ListTaken::Refused(counted.ground());
-        };
-        cursor.take_u16s(payload, count)
+        let (count, behind) = self.take_count(row, reasons)?;
+        behind.take_u16s(count)
     }
 
     // A list of codes whose count is the first of its command.
-    pub fn take_first_codes(self, payload: &[u8], row: usize) -> ListTaken
-        ensures { (read_codes 9 10 ((bounds_at row).least to (bounds_at row).greatest) (drop self.at payload.now) ≡ codes_taken payload.now result) × CodesPlaced (self.at + 1) result }
+    pub fn take_first_codes(self, row: usize) -> Taken<'a, Part>
+        ensures { Takes (codes_at self.entry.payload.now) (read_codes 9 10 ((bounds_at row).least to (bounds_at row).greatest) (rest self.entry)) (CodesFrom (moved self.entry 1)) result }
     {
-        self.take_u16_list(
-            payload,
-            row,
-            error::FIRST_COUNT_MISSING,
-            error::FIRST_COUNT_OUT_OF_RANGE,
-        )
+        self.take_u16_list(row, FIRST_COUNT)
     }
 
     // One whose count is the second.
-    pub fn take_second_codes(self, payload: &[u8], row: usize) -> ListTaken
-        ensures { (read_codes 11 12 ((bounds_at row).least to (bounds_at row).greatest) (drop self.at payload.now) ≡ codes_taken payload.now result) × CodesPlaced (self.at + 1) result }
+    pub fn take_second_codes(self, row: usize) -> Taken<'a, Part>
+        ensures { Takes (codes_at self.entry.payload.now) (read_codes 11 12 ((bounds_at row).least to (bounds_at row).greatest) (rest self.entry)) (CodesFrom (moved self.entry 1)) result }
     {
-        self.take_u16_list(
-            payload,
-            row,
-            error::SECOND_COUNT_MISSING,
-            error::SECOND_COUNT_OUT_OF_RANGE,
-        )
+        self.take_u16_list(row, SECOND_COUNT)
     }
 
     // Bit 7 set: one byte of block number follows. Bit 7 clear: two bytes. The answer tells which it was.
-    pub fn take_element(self, payload: &[u8]) -> ElementTaken
-        ensures { (read_element (drop self.at payload.now) ≡ element_taken payload.now result) × ElementPlaced payload.now self.at result }
+    pub fn take_element(self) -> Taken<'a, FormedElement>
+        ensures { Takes formed_is (read_element (rest self.entry)) (To (moved self.entry (element_size (get_or self.entry.payload.now self.entry.at 0)))) result }
     {
+        let payload = self.payload;
         let at = self.at;
         if payload.len() <= at {
-            return ElementTaken::Refused(error::BLOCK_LIST_TRUNCATED);
+            return Err(Reason::BlockListTruncated);
         }
         let left = payload.len() - at;
         let header = payload[at];
-        if header < 0x80 {
+        let long = header < 0x80;
+        if long {
             if left < 3 {
-                return ElementTaken::Refused(error::LONG_BLOCK_NUMBER_MISSING);
+                return Err(Reason::LongBlockNumberMissing);
             }
-            let number = word_of(payload[at + 1], payload[at + 2]);
-            return ElementTaken::Element(element(header, number), true, Cursor { at: at + 3 });
+            let element = element(header, word_of(payload[at + 1], payload[at + 2]));
+            return Ok((
+                FormedElement { element, long },
+                Cursor { at: at + 3, ..self },
+            ));
         }
         if left < 2 {
-            return ElementTaken::Refused(error::SHORT_BLOCK_NUMBER_MISSING);
+            return Err(Reason::ShortBlockNumberMissing);
         }
-        let number = word_of(payload[at + 1], 0);
-        ElementTaken::Element(element(header, number), false, Cursor { at: at + 2 })
+        let element = element(header, u16::from(payload[at + 1]));
+        Ok((
+            FormedElement { element, long },
+            Cursor { at: at + 2, ..self },
+        ))
     }
 
     // The elements behind their count.
-    pub fn take_elements(self, payload: &[u8], count: u8) -> BlocksTaken
-        ensures { (read_each count (drop self.at payload.now) ≡ elements_taken payload.now result) × ElementsPlaced payload.now self.at result }
+    pub fn take_elements(self, count: u8) -> Taken<'a, Blocks>
+        ensures { Takes (elements_in self.entry.payload.now) (read_each count (rest self.entry)) (ElementsFrom self.entry) result }
     {
-        let start = self.at;
-        let mut at = start;
-        let mut left = count;
-        while 0 < left {
-            let cursor = Cursor { at: at };
-            let taken = cursor.take_element(payload);
-            let ElementTaken::Element(_, _, next) = taken else {
-                return BlocksTaken::Refused(taken.ground());
-            };
-            at = next.at;
-            left -= 1;
+        let mut cursor = self;
+        for _taken in 0..count {
+            let (_, behind) = cursor.take_element()?;
+            cursor = behind;
         }
-        let long = count_long(start, at, count);
-        BlocksTaken::Blocks(
-            Part {
-                start: start,
-                count: count as usize,
-            },
-            long,
-            Cursor { at: at },
-        )
+        Ok((Blocks::between(self.at, cursor.at, count), cursor))
     }
 
     // The same by their first bytes alone, without a jump for the form of each: where the forms of a list change, that is guessed wrongly every other time, and where they
     // do not, `take_elements` need not wait for each byte before it looks at the next. An element has two bytes at least, so the walk goes on while two are left; a long one
     // may then lack its third. `taken` is the place of the last byte taken; behind such an element it is the payload's length.
-    fn take_few(self, payload: &[u8], count: u8) -> BlocksTaken
-        requires { (0 < count) × (0 < self.at) × (self.at ≤ length payload.now) }
-        ensures { (read_each count (drop self.at payload.now) ≡ elements_taken payload.now result) × ElementsPlaced payload.now self.at result }
+    fn take_few(self, count: u8) -> Taken<'a, Blocks>
+        requires { (0 < count) × (0 < self.at) × (self.at ≤ length self.payload.now) }
+        ensures { Takes (elements_in self.entry.payload.now) (read_each count (rest self.entry)) (ElementsFrom self.entry) result }
     {
-        let start = self.at;
-        let limit = before_two(payload);
-        let mut taken = start - 1;
-        let mut left = count;
-        while 0 < left {
+        let payload = self.payload;
+        // Two bytes are left behind every place before this one.
+        let limit = payload.len().saturating_sub(2);
+        let mut taken = self.at - 1;
+        for _element in 0..count {
             if limit <= taken {
-                return BlocksTaken::Refused(cut_off(payload, taken));
+                return Err(self.cut_off(taken));
             }
             taken += element_size(payload[taken + 1]);
-            left -= 1;
         }
         if payload.len() <= taken {
-            return BlocksTaken::Refused(error::LONG_BLOCK_NUMBER_MISSING);
+            return Err(Reason::LongBlockNumberMissing);
         }
         let at = taken + 1;
-        let long = count_long(start, at, count);
-        BlocksTaken::Blocks(
-            Part {
-                start: start,
-                count: count as usize,
-            },
-            long,
-            Cursor { at: at },
-        )
+        Ok((Blocks::between(self.at, at, count), Cursor { at, ..self }))
+    }
+
+    // Why no element is whole behind a place with fewer than two bytes behind it. Only a long element that lacks its third byte takes the place to the payload's length.
+    fn cut_off(self, taken: usize) -> Reason
+        requires { length self.payload.now < taken + 3 }
+        ensures { (length self.entry.payload.now ≤ taken → number_of result ≡ 16) × (taken < length self.entry.payload.now → read_element (drop (taken + 1) self.entry.payload.now) ≡ refuse (number_of result)) }
+    {
+        if self.payload.len() <= taken {
+            return Reason::LongBlockNumberMissing;
+        }
+        let at = taken + 1;
+        match (Cursor { at, ..self }).take_element() {
+            Err(reason) => reason,
+            Ok(_) => unreachable!(),
+        }
     }
 
     // take_block_list, with the count in front of it
-    pub fn take_block_list(self, payload: &[u8], missing: u8, out_of_range: u8) -> BlocksTaken
-        ensures { (read_elements missing out_of_range true (drop self.at payload.now) ≡ elements_taken payload.now result) × ElementsPlaced payload.now (self.at + 1) result }
+    pub fn take_block_list(self, reasons: CountReasons) -> Taken<'a, Blocks>
+        ensures { Takes (elements_in self.entry.payload.now) (read_elements (number_of reasons.missing) (number_of reasons.out_of_range) true (rest self.entry)) (ElementsFrom (moved self.entry 1)) result }
     {
-        let counted = self.take_block_count(payload, missing, out_of_range);
-        let ByteTaken::Byte(count, cursor) = counted else {
-            return BlocksTaken::Refused(counted.ground());
-        };
+        let (count, behind) = self.take_block_count(reasons)?;
         if count < MANY {
-            return cursor.take_few(payload, count);
+            return behind.take_few(count);
         }
-        cursor.take_elements(payload, count)
+        behind.take_elements(count)
     }
 
     // The blocks of a secure command: their count is the first.
-    pub fn take_first_blocks(self, payload: &[u8]) -> BlocksTaken
-        ensures { (read_elements 9 10 true (drop self.at payload.now) ≡ elements_taken payload.now result) × ElementsPlaced payload.now (self.at + 1) result }
+    pub fn take_first_blocks(self) -> Taken<'a, Blocks>
+        ensures { Takes (elements_in self.entry.payload.now) (read_elements 9 10 true (rest self.entry)) (ElementsFrom (moved self.entry 1)) result }
     {
-        self.take_block_list(
-            payload,
-            error::FIRST_COUNT_MISSING,
-            error::FIRST_COUNT_OUT_OF_RANGE,
-        )
+        self.take_block_list(FIRST_COUNT)
     }
 
     // Blocks behind a list of codes.
-    pub fn take_second_blocks(self, payload: &[u8]) -> BlocksTaken
-        ensures { (read_elements 11 12 true (drop self.at payload.now) ≡ elements_taken payload.now result) × ElementsPlaced payload.now (self.at + 1) result }
+    pub fn take_second_blocks(self) -> Taken<'a, Blocks>
+        ensures { Takes (elements_in self.entry.payload.now) (read_elements 11 12 true (rest self.entry)) (ElementsFrom (moved self.entry 1)) result }
     {
-        self.take_block_list(
-            payload,
-            error::SECOND_COUNT_MISSING,
-            error::SECOND_COUNT_OUT_OF_RANGE,
-        )
+        self.take_block_list(SECOND_COUNT)
     }
 
     // 16 bytes for each block.
-    pub fn take_data(self, payload: &[u8], blocks: usize) -> ListTaken
-        ensures { (read_data true blocks (drop self.at payload.now) ≡ data_taken payload.now result) × DataPlaced self.at blocks result }
+    pub fn take_data(self, blocks: usize) -> Taken<'a, Part>
+        ensures { Takes (bytes_at self.entry.payload.now) (read_data true blocks (rest self.entry)) (DataFrom self.entry blocks) result }
     {
         let start = self.at;
-        let left = self.left(payload);
-        if left / constants::BLOCK_SIZE < blocks {
-            return ListTaken::Refused(error::DATA_TRUNCATED);
+        if self.left() / constants::BLOCK_SIZE < blocks {
+            return Err(Reason::DataTruncated);
         }
         let count = constants::BLOCK_SIZE * blocks;
-        ListTaken::List(
-            Part {
-                start: start,
-                count: count,
+        Ok((
+            Part { start, count },
+            Cursor {
+                at: start + count,
+                ..self
             },
-            Cursor { at: start + count },
-        )
-    }
-}
-
-// How many of so many elements are long, by the bytes that they take: a short one has two, a long one three.
-fn count_long(start: usize, at: usize, count: u8) -> u8
-    requires { (start + 2 * count ≤ at) × (at ≤ start + 3 * count) }
-    ensures { result ≡ at - start - 2 * count }
-{
-    (at - start - 2 * (count as usize)) as u8
-}
-
-// Two bytes are left behind every place before this one.
-fn before_two(payload: &[u8]) -> usize
-    ensures { result ≡ length payload.now - 2 }
-{
-    if payload.len() < 2 {
-        0
-    } else {
-        payload.len() - 2
+        ))
     }
 }
 
@@ -393,16 +333,4 @@ fn element_size(header: u8) -> usize
     ensures { result ≡ element_size header }
 {
     3 - (header >> 7) as usize
-}
-
-// Why no element is whole behind a place with fewer than two bytes behind it. Only a long element that lacks its third byte takes the place to the payload's length.
-fn cut_off(payload: &[u8], taken: usize) -> u8
-    ensures { (length payload.now ≤ taken → result ≡ 16) × (taken < length payload.now → length payload.now < taken + 3 → read_element (drop (taken + 1) payload.now) ≡ refuse result) }
-{
-    if payload.len() <= taken {
-        return error::LONG_BLOCK_NUMBER_MISSING;
-    }
-    let cursor = Cursor { at: taken + 1 };
-    let element = cursor.take_element(payload);
-    element.ground()
 }

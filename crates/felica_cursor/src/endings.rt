@@ -1,21 +1,34 @@
 // The steps of the fixed bytes that end a layout. They are measured first, and only then are their values tested.
-ghost use Rattle.std.specs.Prelude.{◌≡◌, ◌++◌, ◌+◌, ◌-◌, ◌<◌, ◌≤◌, length, take, drop};
+ghost use Rattle.std.specs.Prelude.{◌≡◌, ◌++◌, ◌+◌, ◌-◌, ◌<◌, ◌≤◌, length, take, drop, eqb};
+ghost use Rattle.std.specs.List.{list_all};
 ghost use Rattle.felica_format.specs.Basic.{zeros, word_at};
 ghost use Rattle.felica_format.specs.Layout.{bare, bytes, word, words, reserved, polling, parameter, nothing, a_package};
 ghost use Rattle.felica_format.specs.Read.{zero_at, read_values, read_ending};
 ghost use Rattle.felica_command.specs.Meaning.{part};
-ghost use Rattle.felica_format.specs.Command.{no_fields};
-ghost use Rattle.felica_cursor.specs.Answers.{as_step, MovesTo, moved_with, challenge_taken, word_taken, words_taken, polling_taken, parameter_taken};
-ghost use Rattle.felica_cursor.specs.Steps.{measured, ChallengeZero};
+ghost use Rattle.felica_cursor.specs.Taken.{rest, moved, Takes, To};
+ghost use Rattle.felica_cursor.specs.Steps.{measured, Measured};
+ghost use Rattle.felica_cursor.specs.Endings.{as_size, nothing_is, challenge_is, word_is, words_are, polling_is, types_are};
 
-use crate::answers::{ChallengeTaken, Moved, ParameterTaken, PollingTaken, WordTaken, WordsTaken};
-use crate::cursor::{Cursor, word_of};
+use crate::cursor::{Cursor, Taken, word_of};
 use felica_command::command::Part;
-use felica_command::types::{
-    EncryptionByte, PacketByte, SetParameterEncryptionType, SetParameterPacketType,
-};
+use felica_command::types::{SetParameterEncryptionType, SetParameterPacketType};
 use felica_format::constants::{is_polling_request_code, is_polling_time_slot};
-use felica_format::error;
+use felica_format::error::Reason;
+
+// What a Polling asks for.
+#[derive(Clone, Copy, Debug, PartialEq, Eq)]
+pub struct Polling {
+    pub system_code: u16,
+    pub request_code: u8,
+    pub time_slots: u8,
+}
+
+// What a Set Parameter sets.
+#[derive(Clone, Copy, Debug, PartialEq, Eq)]
+pub struct Parameter {
+    pub encryption_type: SetParameterEncryptionType,
+    pub packet_type: SetParameterPacketType,
+}
 
 // The two-byte number at a place.
 fn word_at(payload: &[u8], at: usize) -> u16
@@ -25,237 +38,184 @@ fn word_at(payload: &[u8], at: usize) -> u16
     word_of(payload[at], payload[at + 1])
 }
 
+fn are_zeros(bytes: &[u8]) -> bool
+    ensures { result ≡ list_all (λ b. eqb b 0) bytes.now }
+{
+    bytes.iter().all(|byte| *byte == 0)
+}
+
 // The bytes at a place are all 00.
 fn all_zero(payload: &[u8], at: usize, count: usize) -> bool
     requires { at + count ≤ length payload.now }
     ensures { result ≡ zero_at count payload.now at }
 {
-    let mut i: usize = 0;
-    while i < count {
-        if payload[at + i] != 0 {
-            return false;
-        }
-        i += 1;
-    }
-    true
+    are_zeros(&payload[at..at + count])
 }
 
-// The bytes at a place, with zeros behind them.
-fn challenge_at(payload: &[u8], at: usize, count: usize) -> [u8; 16]
-    requires { (at + count ≤ length payload.now) × (count ≤ 16) }
-    ensures { result ≡ take count (drop at payload.now) ++ zeros (16 - count) }
-{
-    let mut challenge = [0u8; 16];
-    let mut i: usize = 0;
-    while i < count {
-        challenge[i] = payload[at + i];
-        i += 1;
-    }
-    challenge
-}
-
-// The system code has its high byte first.
-fn polling_at(payload: &[u8], at: usize) -> PollingTaken
-    requires { at + 4 ≤ length payload.now }
-    ensures { (read_values polling (drop at payload.now) ≡ as_step payload.now (polling_taken result)) × MovesTo (at + 4) (polling_taken result) }
-{
-    let request_code = payload[at + 2];
-    if !is_polling_request_code(request_code) {
-        return PollingTaken::Refused(error::FIRST_TYPE_UNDEFINED);
-    }
-    let time_slots = payload[at + 3];
-    if !is_polling_time_slot(time_slots) {
-        return PollingTaken::Refused(error::SECOND_TYPE_UNDEFINED);
-    }
-    let high = payload[at];
-    let low = payload[at + 1];
-    let system_code = word_of(low, high);
-    PollingTaken::Parameters(system_code, request_code, time_slots, Cursor { at: at + 4 })
-}
-
-// D0 to D3 are tested, then D6 and D7, then the encryption type, then the packet type.
-fn parameter_at(payload: &[u8], at: usize) -> ParameterTaken
-    requires { at + 8 ≤ length payload.now }
-    ensures { (read_values parameter (drop at payload.now) ≡ as_step payload.now (parameter_taken result)) × MovesTo (at + 8) (parameter_taken result) }
-{
-    if !all_zero(payload, at, 4) {
-        return ParameterTaken::Refused(error::RESERVED_NOT_ZERO);
-    }
-    if !all_zero(payload, at + 6, 2) {
-        return ParameterTaken::Refused(error::RESERVED_NOT_ZERO);
-    }
-    let encryption = SetParameterEncryptionType::from_byte(payload[at + 4]);
-    let EncryptionByte::Defined(encryption_type) = encryption else {
-        return ParameterTaken::Refused(error::FIRST_TYPE_UNDEFINED);
-    };
-    let packet = SetParameterPacketType::from_byte(payload[at + 5]);
-    let PacketByte::Defined(packet_type) = packet else {
-        return ParameterTaken::Refused(error::SECOND_TYPE_UNDEFINED);
-    };
-    ParameterTaken::Types(encryption_type, packet_type, Cursor { at: at + 8 })
-}
-
-impl Cursor {
+impl<'a> Cursor<'a> {
     // The bytes that end a layout are measured: the position stays.
-    pub fn measure(self, payload: &[u8], size: usize) -> Moved
-        ensures { (measured size (drop self.at payload.now) ≡ as_step payload.now (moved_with size result)) × MovesTo self.at (moved_with size result) }
+    pub fn measure(self, size: usize) -> Taken<'a, ()>
+        ensures { Takes (as_size size) (measured size (rest self.entry)) (Measured self.entry size) result }
     {
-        let left = self.left(payload);
+        let left = self.left();
         if left < size {
-            return Moved::Refused(error::TOO_SHORT);
+            return Err(Reason::TooShort);
         }
         if size < left {
-            return Moved::Refused(error::TRAILING_BYTES);
+            return Err(Reason::TrailingBytes);
         }
-        Moved::On(self)
+        Ok(((), self))
     }
 
     // ensure_no_trailing_bytes
-    pub fn take_end(self, payload: &[u8]) -> Moved
-        ensures { (read_ending bare nothing (drop self.at payload.now) ≡ as_step payload.now (moved_with no_fields result)) × MovesTo self.at (moved_with no_fields result) }
+    pub fn take_end(self) -> Taken<'a, ()>
+        ensures { Takes nothing_is (read_ending bare nothing (rest self.entry)) (To self.entry) result }
     {
-        self.measure(payload, 0)
+        self.measure(0)
     }
 
     // Two reserved bytes.
-    pub fn take_reserved(self, payload: &[u8]) -> Moved
-        ensures { (read_ending reserved nothing (drop self.at payload.now) ≡ as_step payload.now (moved_with no_fields result)) × MovesTo (self.at + 2) (moved_with no_fields result) }
+    pub fn take_reserved(self) -> Taken<'a, ()>
+        ensures { Takes nothing_is (read_ending reserved nothing (rest self.entry)) (To (moved self.entry 2)) result }
     {
-        let at = self.at;
-        let step = self.measure(payload, 2);
-        let Moved::On(_) = step else {
-            return step;
-        };
-        if !all_zero(payload, at, 2) {
-            return Moved::Refused(error::RESERVED_NOT_ZERO);
+        self.measure(2)?;
+        if !all_zero(self.payload, self.at, 2) {
+            return Err(Reason::ReservedNotZero);
         }
-        Moved::On(Cursor { at: at + 2 })
+        let at = self.at + 2;
+        Ok(((), Cursor { at, ..self }))
     }
 
-    fn take_challenge(self, payload: &[u8], size: usize) -> ChallengeTaken
+    // The bytes from here on, with zeros behind them.
+    fn challenge(self, size: usize) -> [u8; 16]
+        requires { (self.at + size ≤ length self.payload.now) × (size ≤ 16) }
+        ensures { result ≡ take size (rest self.entry) ++ zeros (16 - size) }
+    {
+        let mut challenge = [0; 16];
+        challenge[..size].copy_from_slice(&self.payload[self.at..self.at + size]);
+        challenge
+    }
+
+    fn take_challenge(self, size: usize) -> Taken<'a, [u8; 16]>
         requires { (0 < size) × (size ≤ 16) }
-        ensures { (read_ending (bytes size) nothing (drop self.at payload.now) ≡ as_step payload.now (challenge_taken result)) × MovesTo (self.at + size) (challenge_taken result) × ChallengeZero result }
+        ensures { Takes challenge_is (read_ending (bytes size) nothing (rest self.entry)) (To (moved self.entry size)) result }
     {
-        let at = self.at;
-        let step = self.measure(payload, size);
-        let Moved::On(_) = step else {
-            return ChallengeTaken {
-                step: step,
-                challenge: [0u8; 16],
-            };
-        };
-        let challenge = challenge_at(payload, at, size);
-        ChallengeTaken {
-            step: Moved::On(Cursor { at: at + size }),
-            challenge: challenge,
-        }
+        self.measure(size)?;
+        let at = self.at + size;
+        Ok((self.challenge(size), Cursor { at, ..self }))
     }
 
-    // The challenge of Authentication1 and 2.
-    pub fn take_challenge_8(self, payload: &[u8]) -> ChallengeTaken
-        ensures { (read_ending (bytes 8) nothing (drop self.at payload.now) ≡ as_step payload.now (challenge_taken result)) × MovesTo (self.at + 8) (challenge_taken result) × ChallengeZero result }
+    // The challenge of Authentication1 and 2: eight bytes, with eight zeros behind them.
+    pub fn take_challenge_8(self) -> Taken<'a, [u8; 16]>
+        ensures { Takes challenge_is (read_ending (bytes 8) nothing (rest self.entry)) (To (moved self.entry 8)) result }
     {
-        self.take_challenge(payload, 8)
+        self.take_challenge(8)
     }
 
     // The challenge of Authentication1 v2 and 2 v2.
-    pub fn take_challenge_16(self, payload: &[u8]) -> ChallengeTaken
-        ensures { (read_ending (bytes 16) nothing (drop self.at payload.now) ≡ as_step payload.now (challenge_taken result)) × MovesTo (self.at + 16) (challenge_taken result) × ChallengeZero result }
+    pub fn take_challenge_16(self) -> Taken<'a, [u8; 16]>
+        ensures { Takes challenge_is (read_ending (bytes 16) nothing (rest self.entry)) (To (moved self.entry 16)) result }
     {
-        self.take_challenge(payload, 16)
+        self.take_challenge(16)
     }
 
     // Issue id and issue parameter, with a package behind them.
-    pub fn take_issue(self, payload: &[u8]) -> ChallengeTaken
-        ensures { (read_ending (bytes 16) a_package (drop self.at payload.now) ≡ as_step payload.now (challenge_taken result)) × MovesTo (self.at + 16) (challenge_taken result) × ChallengeZero result }
+    pub fn take_issue(self) -> Taken<'a, [u8; 16]>
+        ensures { Takes challenge_is (read_ending (bytes 16) a_package (rest self.entry)) (To (moved self.entry 16)) result }
     {
-        let at = self.at;
-        let left = self.left(payload);
-        if left < 16 {
-            return ChallengeTaken {
-                step: Moved::Refused(error::TOO_SHORT),
-                challenge: [0u8; 16],
-            };
+        if self.left() < 16 {
+            return Err(Reason::TooShort);
         }
-        let challenge = challenge_at(payload, at, 16);
-        ChallengeTaken {
-            step: Moved::On(Cursor { at: at + 16 }),
-            challenge: challenge,
-        }
+        let at = self.at + 16;
+        Ok((self.challenge(16), Cursor { at, ..self }))
     }
 
     // A two-byte number.
-    pub fn take_word(self, payload: &[u8]) -> WordTaken
-        ensures { (read_ending word nothing (drop self.at payload.now) ≡ as_step payload.now (word_taken result)) × MovesTo (self.at + 2) (word_taken result) }
+    pub fn take_word(self) -> Taken<'a, u16>
+        ensures { Takes word_is (read_ending word nothing (rest self.entry)) (To (moved self.entry 2)) result }
     {
-        let at = self.at;
-        let step = self.measure(payload, 2);
-        let Moved::On(_) = step else {
-            return WordTaken::Refused(step.ground());
-        };
-        WordTaken::Word(word_at(payload, at), Cursor { at: at + 2 })
+        self.measure(2)?;
+        let at = self.at + 2;
+        Ok((word_at(self.payload, self.at), Cursor { at, ..self }))
     }
 
     // A two-byte number, with a package behind it.
-    pub fn take_packaged_word(self, payload: &[u8]) -> WordTaken
-        ensures { (read_ending word a_package (drop self.at payload.now) ≡ as_step payload.now (word_taken result)) × MovesTo (self.at + 2) (word_taken result) }
+    pub fn take_packaged_word(self) -> Taken<'a, u16>
+        ensures { Takes word_is (read_ending word a_package (rest self.entry)) (To (moved self.entry 2)) result }
     {
-        let at = self.at;
-        let left = self.left(payload);
-        if left < 2 {
-            return WordTaken::Refused(error::TOO_SHORT);
+        if self.left() < 2 {
+            return Err(Reason::TooShort);
         }
-        WordTaken::Word(word_at(payload, at), Cursor { at: at + 2 })
+        let at = self.at + 2;
+        Ok((word_at(self.payload, self.at), Cursor { at, ..self }))
     }
 
     // Two two-byte numbers.
-    pub fn take_words(self, payload: &[u8]) -> WordsTaken
-        ensures { (read_ending words nothing (drop self.at payload.now) ≡ as_step payload.now (words_taken result)) × MovesTo (self.at + 4) (words_taken result) }
+    pub fn take_words(self) -> Taken<'a, (u16, u16)>
+        ensures { Takes words_are (read_ending words nothing (rest self.entry)) (To (moved self.entry 4)) result }
     {
-        let at = self.at;
-        let step = self.measure(payload, 4);
-        let Moved::On(_) = step else {
-            return WordsTaken::Refused(step.ground());
-        };
-        WordsTaken::Words(
-            word_at(payload, at),
-            word_at(payload, at + 2),
-            Cursor { at: at + 4 },
-        )
+        self.measure(4)?;
+        let numbers = (
+            word_at(self.payload, self.at),
+            word_at(self.payload, self.at + 2),
+        );
+        let at = self.at + 4;
+        Ok((numbers, Cursor { at, ..self }))
     }
 
-    // System code, request code and time slots.
-    pub fn take_polling(self, payload: &[u8]) -> PollingTaken
-        ensures { (read_ending polling nothing (drop self.at payload.now) ≡ as_step payload.now (polling_taken result)) × MovesTo (self.at + 4) (polling_taken result) }
+    // System code, high byte first, request code and time slots.
+    pub fn take_polling(self) -> Taken<'a, Polling>
+        ensures { Takes polling_is (read_ending polling nothing (rest self.entry)) (To (moved self.entry 4)) result }
     {
+        self.measure(4)?;
+        let payload = self.payload;
         let at = self.at;
-        let step = self.measure(payload, 4);
-        let Moved::On(_) = step else {
-            return PollingTaken::Refused(step.ground());
+        let request_code = payload[at + 2];
+        if !is_polling_request_code(request_code) {
+            return Err(Reason::FirstTypeUndefined);
+        }
+        let time_slots = payload[at + 3];
+        if !is_polling_time_slot(time_slots) {
+            return Err(Reason::SecondTypeUndefined);
+        }
+        let polling = Polling {
+            system_code: word_of(payload[at + 1], payload[at]),
+            request_code,
+            time_slots,
         };
-        polling_at(payload, at)
+        Ok((polling, Cursor { at: at + 4, ..self }))
     }
 
-    // The two types between reserved bytes.
-    pub fn take_parameter(self, payload: &[u8]) -> ParameterTaken
-        ensures { (read_ending parameter nothing (drop self.at payload.now) ≡ as_step payload.now (parameter_taken result)) × MovesTo (self.at + 8) (parameter_taken result) }
+    // The two types between reserved bytes: D0 to D3 are tested, then D6 and D7, then the encryption type, then the packet type.
+    pub fn take_parameter(self) -> Taken<'a, Parameter>
+        ensures { Takes types_are (read_ending parameter nothing (rest self.entry)) (To (moved self.entry 8)) result }
     {
+        self.measure(8)?;
+        let payload = self.payload;
         let at = self.at;
-        let step = self.measure(payload, 8);
-        let Moved::On(_) = step else {
-            return ParameterTaken::Refused(step.ground());
+        if !all_zero(payload, at, 4) || !all_zero(payload, at + 6, 2) {
+            return Err(Reason::ReservedNotZero);
+        }
+        let Some(encryption_type) = SetParameterEncryptionType::from_byte(payload[at + 4]) else {
+            return Err(Reason::FirstTypeUndefined);
         };
-        parameter_at(payload, at)
+        let Some(packet_type) = SetParameterPacketType::from_byte(payload[at + 5]) else {
+            return Err(Reason::SecondTypeUndefined);
+        };
+        let parameter = Parameter {
+            encryption_type,
+            packet_type,
+        };
+        Ok((parameter, Cursor { at: at + 8, ..self }))
     }
 
     // The package: all that is left.
-    pub fn package(self, payload: &[u8]) -> Part
-        ensures { result ≡ part self.at (length (drop self.at payload.now)) }
+    pub fn package(self) -> Part
+        ensures { result ≡ part self.entry.at (length (rest self.entry)) }
     {
-        let left = self.left(payload);
         Part {
             start: self.at,
-            count: left,
+            count: self.left(),
         }
     }
 }

@@ -1,6 +1,5 @@
 // The walk along a payload: a position, and one step for each part of a layout.
 #![tactic(auto)]
 
-pub mod answers;
 pub mod cursor;
 pub mod endings;

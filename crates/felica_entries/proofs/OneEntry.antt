@@ -4,7 +4,7 @@ use Prim.Native.Nat.{ℕ, zero, suc, ◌+◌, ◌*◌, ◌≤◌, ◌<◌}
 use native.Mathlib.Omega.{arith}
 use mathlib.Core.Path.{◌≡◌, refl, sym, ap, ◌∙◌}
 use mathlib.Core.List.{List, [], ◌∷◌}
-use mathlib.Core.Option.{some, none}
+use Rattle.std.specs.Prelude.{Some, None}
 use lib.ListN.{length, get_or, drop}
 use borrow.Author.Tests.{lt-ltb, le-ltb, le-leb, lt-leb}
 use Rattle.felica_format.specs.Basic.{◌and◌, word_at, Step, taken, refuse, bind}
@@ -17,19 +17,19 @@ use Rattle.felica_entries.specs.Entries.{code_entry, value_of, element_behind, e
 use Rattle.felica_cursor.proofs.Laws.{word_drop}
 
 -- where there is no entry, and where there is
-pub no_code : (s : List ℕ) (p : Part) (i : ℕ) → p.count ≤ i → code_entry s p i ≡ none
+pub no_code : (s : List ℕ) (p : Part) (i : ℕ) → p.count ≤ i → code_entry s p i ≡ None
 unfolding code_entry ◌and◌
 no_code s p i h = rw (le-ltb i p.count h)
 
-pub no_room : (s : List ℕ) (p : Part) (i : ℕ) → i < p.count → length s < p.start + 2 * i + 2 → code_entry s p i ≡ none
+pub no_room : (s : List ℕ) (p : Part) (i : ℕ) → i < p.count → length s < p.start + 2 * i + 2 → code_entry s p i ≡ None
 unfolding code_entry ◌and◌
 no_room s p i h g = rw (lt-ltb i p.count h, lt-leb (p.start + 2 * i + 2) (length s) g)
 
-pub one_code : (s : List ℕ) (p : Part) (i : ℕ) → i < p.count → p.start + 2 * i + 2 ≤ length s → code_entry s p i ≡ some (word_at s (p.start + 2 * i))
+pub one_code : (s : List ℕ) (p : Part) (i : ℕ) → i < p.count → p.start + 2 * i + 2 ≤ length s → code_entry s p i ≡ Some (word_at s (p.start + 2 * i))
 unfolding code_entry ◌and◌
 one_code s p i h g = rw (lt-ltb i p.count h, le-leb (p.start + 2 * i + 2) (length s) g)
 
-pub no_element : (s : List ℕ) (p : Part) (i : ℕ) → p.count ≤ i → element_entry s p i ≡ none
+pub no_element : (s : List ℕ) (p : Part) (i : ℕ) → p.count ≤ i → element_entry s p i ≡ None
 unfolding element_entry
 no_element s p i h = rw (le-ltb i p.count h)
 
@@ -65,27 +65,27 @@ codes_get (suc n) l (suc i) h =
     codes_get n (drop 2 l) i (omega arith) ∙ word_drop l 2 (2 * i) ∙ ap (word_at l) e
 
 pub code_of_list : CodeOfList
-code_of_list s p i inside h = one_code s p i h (omega arith) ∙ ap some (sym (codes_get p.count (drop p.start s) i h ∙ word_drop s p.start (2 * i)))
+code_of_list s p i inside h = one_code s p i h (omega arith) ∙ ap Some (sym (codes_get p.count (drop p.start s) i h ∙ word_drop s p.start (2 * i)))
 
 -- the elements of a list
 behind_get : (n : ℕ) (l : List ℕ) (es : List Formed) (r : List ℕ) (d : Formed) (i : ℕ) → read_each n l ≡ taken es r → i < n
-    → value_of (element_behind i l) ≡ some (get_or es i d)
+    → value_of (element_behind i l) ≡ Some (get_or es i d)
 unfolding read_each
 behind_get zero l es r d i took h = absurd (omega arith)
 behind_get (suc n) l es r d zero took h =
     let first = bind_taken _ _ took in
     let rest = bind_taken _ _ first.3 in
     let value = taken_value rest.3 in
-    ap value_of (behind_none l ∙ first.2) ∙ ap (λ (x : List Formed). some (get_or x 0 d)) value
+    ap value_of (behind_none l ∙ first.2) ∙ ap (λ (x : List Formed). Some (get_or x 0 d)) value
 behind_get (suc n) l es r d (suc i) took h =
     let first = bind_taken _ _ took in
     let rest = bind_taken _ _ first.3 in
     let value = taken_value rest.3 in
     ap value_of (behind_more (suc i) i l first.0 first.1 refl first.2) ∙
-    behind_get n first.1 rest.0 rest.1 d i rest.2 (omega arith) ∙ ap (λ (x : List Formed). some (get_or x (suc i) d)) value
+    behind_get n first.1 rest.0 rest.1 d i rest.2 (omega arith) ∙ ap (λ (x : List Formed). Some (get_or x (suc i) d)) value
 
 element_of_step : (s : List ℕ) (p : Part) (i : ℕ) (d : Formed) (x : Step (List Formed)) → read_each p.count (drop p.start s) ≡ x
-    → length (value_or [] x) ≡ p.count → i < p.count → element_entry s p i ≡ some (get_or (value_or [] x) i d)
+    → length (value_or [] x) ≡ p.count → i < p.count → element_entry s p i ≡ Some (get_or (value_or [] x) i d)
 element_of_step s p i d (taken es r) is counted h = one_element_read s p i h ∙ behind_get p.count (drop p.start s) es r d i is h
 element_of_step s p i d (refuse n) is counted h = absurd (omega (arith, counted))
 

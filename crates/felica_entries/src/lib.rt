@@ -2,98 +2,54 @@
 #![tactic(auto)]
 
 ghost use Rattle.std.specs.Prelude.{◌≡◌};
-ghost use Rattle.felica_entries.specs.Entries.{code_entry, element_entry, word_found, service_code_found, node_code_found, block_found};
+ghost use Rattle.felica_entries.specs.Entries.{code_entry, element_entry, service_code_found, node_code_found, block_found};
 
 use felica_command::command::Part;
-use felica_command::types::{BlockListElement, NodeCode, ServiceCode};
-use felica_cursor::answers::ElementTaken;
-use felica_cursor::cursor::{Cursor, word_of};
+use felica_command::types::{NodeCode, ServiceCode};
+use felica_cursor::cursor::{Cursor, FormedElement, word_of};
 
-#[derive(Clone, Copy)]
-pub enum ServiceCodeAt {
-    Code(ServiceCode),
-    None,
-}
-
-#[derive(Clone, Copy)]
-pub enum NodeCodeAt {
-    Code(NodeCode),
-    None,
-}
-
-// An element, and whether its form was the long one.
-#[derive(Clone, Copy)]
-pub enum BlockAt {
-    Element(BlockListElement, bool),
-    None,
-}
-
-#[derive(Clone, Copy)]
-enum WordEntry {
-    Word(u16),
-    None,
-}
-
-fn word_entry(payload: &[u8], list: Part, i: usize) -> WordEntry
-    ensures { word_found result ≡ code_entry payload.now list i }
+fn word_entry(payload: &[u8], list: Part, i: usize) -> Option<u16>
+    ensures { result ≡ code_entry payload.now list i }
 {
-    let start = list.start;
-    if list.count <= i {
-        return WordEntry::None;
+    let left = payload.len().saturating_sub(list.start);
+    if list.count <= i || left / 2 <= i {
+        return None;
     }
-    if payload.len() <= start {
-        return WordEntry::None;
-    }
-    let left = payload.len() - start;
-    if left / 2 <= i {
-        return WordEntry::None;
-    }
-    let at = start + 2 * i;
-    WordEntry::Word(word_of(payload[at], payload[at + 1]))
+    let at = list.start + 2 * i;
+    Some(word_of(payload[at], payload[at + 1]))
 }
 
-pub fn service_code_at(payload: &[u8], list: Part, i: usize) -> ServiceCodeAt
+pub fn service_code_at(payload: &[u8], list: Part, i: usize) -> Option<ServiceCode>
     ensures { service_code_found result ≡ code_entry payload.now list i }
 {
-    let entry = word_entry(payload, list, i);
-    match entry {
-        WordEntry::Word(code) => ServiceCodeAt::Code(ServiceCode(code)),
-        WordEntry::None => ServiceCodeAt::None,
-    }
+    word_entry(payload, list, i).map(ServiceCode)
 }
 
-pub fn node_code_at(payload: &[u8], list: Part, i: usize) -> NodeCodeAt
+pub fn node_code_at(payload: &[u8], list: Part, i: usize) -> Option<NodeCode>
     ensures { node_code_found result ≡ code_entry payload.now list i }
 {
-    let entry = word_entry(payload, list, i);
-    match entry {
-        WordEntry::Word(code) => NodeCodeAt::Code(NodeCode(code)),
-        WordEntry::None => NodeCodeAt::None,
-    }
+    word_entry(payload, list, i).map(NodeCode)
 }
 
 // The elements in front of it are walked over, since each has two bytes or three.
-pub fn block_at(payload: &[u8], list: Part, i: usize) -> BlockAt
+pub fn block_at(payload: &[u8], list: Part, i: usize) -> Option<FormedElement>
     ensures { block_found result ≡ element_entry payload.now list i }
 {
     if list.count <= i {
-        return BlockAt::None;
+        return None;
     }
-    let mut at = list.start;
-    let mut left = i;
-    while 0 < left {
-        let cursor = Cursor { at: at };
-        let taken = cursor.take_element(payload);
-        let ElementTaken::Element(_, _, next) = taken else {
-            return BlockAt::None;
-        };
-        at = next.at;
-        left -= 1;
-    }
-    let cursor = Cursor { at: at };
-    let taken = cursor.take_element(payload);
-    let ElementTaken::Element(element, long, _) = taken else {
-        return BlockAt::None;
+    let mut cursor = Cursor {
+        payload,
+        at: list.start,
     };
-    BlockAt::Element(element, long)
+    for _element in 0..i {
+        let Ok((_, behind)) = cursor.take_element() else {
+            return None;
+        };
+        cursor = behind;
+    }
+    let Ok((element, _)) = cursor.take_element() else {
+        return None;
+    };
+    Some(element)
 }

@@ -1,49 +1,40 @@
 -- The class table by its rule: it is the rule's values in order, which antt computes and compares with the source's table. And how many codes each class has.
 -- Assumes nothing.
-use Prim.Native.Nat.{ℕ, ◌+◌, ◌<◌}
-use mathlib.Core.Path.{◌≡◌, refl, ap, ◌∙◌}
-use mathlib.Core.Bool.{cond}
-use mathlib.Core.List.{List, [], ◌∷◌}
-use lib.ListN.{get_or}
-use lib.Dec.{eqb}
-use borrow.Author.Tests.{ne_eqb}
+use Rattle.std.proofs.Common.{ℕ, ◌+◌, ◌<◌, ◌≡◌, refl, Bool, true, false, cond, List, [], ◌∷◌, get_or}
 use Rattle.felica_format.specs.declared.classes.Class.{Class}
 use Rattle.felica_format.specs.declared.classes.Class.TheVariants.{Plain, Secure, Unknown}
 use Rattle.felica_format.specs.Layout.{plain_rows, secure_rows, has, class_of}
 use Rattle.felica_format.proofs.Tables.{table_from, entry}
 
-class_byte : Class → ℕ
-class_byte Unknown = 0
-class_byte Plain = 1
-class_byte Secure = 2
+unfoldable pub classes : List Class
+unfolding table_from class_of has plain_rows secure_rows
+classes = table_from class_of 0 256
 
-abbrev pub byte_class : ℕ → Class
-byte_class n = cond (eqb n 1) Plain (cond (eqb n 2) Secure Unknown)
-
-byte_class_class_byte : (k : Class) → byte_class (class_byte k) ≡ k
-unfolding class_byte
-byte_class_class_byte Unknown = refl
-byte_class_class_byte Plain = refl
-byte_class_class_byte Secure = refl
-
-pub byte_class_other : (n : ℕ) → (n ≡ 1 → ⊥) → (n ≡ 2 → ⊥) → byte_class n ≡ Unknown
-byte_class_other n not_plain not_secure = rw (ne_eqb n 1 not_plain, ne_eqb n 2 not_secure)
-
-unfoldable pub classes : List ℕ
-unfolding table_from class_byte class_of has plain_rows secure_rows
-classes = table_from (λ code. class_byte (class_of code)) 0 256
-
-pub class_at : (code : ℕ) → code < 256 → byte_class (get_or classes code 0) ≡ class_of code
+pub class_at : (code : ℕ) → code < 256 → get_or classes code Plain ≡ class_of code
 unfolding classes
-class_at code h =
-    ap byte_class (entry (λ k. class_byte (class_of k)) 0 256 code h) ∙ byte_class_class_byte (class_of code)
+class_at code h = entry class_of Plain 256 code h
 
--- how often a number stands in a table
-unfoldable pub count : ℕ → List ℕ → ℕ
-count n [] = 0
-count n (x ∷ xs) = cond (eqb x n) 1 0 + count n xs
+unfoldable pub is_plain : Class → Bool
+is_plain Plain = true
+is_plain Secure = false
+is_plain Unknown = false
+
+unfoldable pub is_secure : Class → Bool
+is_secure Plain = false
+is_secure Secure = true
+is_secure Unknown = false
+
+unfoldable pub is_unknown : Class → Bool
+is_unknown Plain = false
+is_unknown Secure = false
+is_unknown Unknown = true
+
+-- how many entries of a table pass a test
+unfoldable pub count : (Class → Bool) → List Class → ℕ
+count test [] = 0
+count test (x ∷ xs) = cond (test x) 1 0 + count test xs
 
 -- "25 plain, 8 secure, 223 unknown"
-pub class_counts : (count 1 classes ≡ 25) × (count 2 classes ≡ 8) × (count 0 classes ≡ 223)
-unfolding count classes
+pub class_counts : (count is_plain classes ≡ 25) × (count is_secure classes ≡ 8) × (count is_unknown classes ≡ 223)
+unfolding count classes is_plain is_secure is_unknown
 class_counts = (refl, refl, refl)

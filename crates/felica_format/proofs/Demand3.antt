@@ -8,7 +8,7 @@ use mathlib.Core.Path.{◌≡◌, refl, sym, ap, ◌∙◌, subst}
 use mathlib.Core.Logic.{◌⊎◌, inl, inr, ◌≢◌}
 use mathlib.Core.Bool.{Bool, true, false, cond, true≢false}
 use mathlib.Core.List.{List, [], ◌∷◌, ◌++◌, append-nil, append_assoc}
-use mathlib.Core.Option.{none, some}
+use Rattle.std.specs.Prelude.{None, Some}
 use lib.ListN.{length, length-append}
 use lib.Dec.{eqb}
 use borrow.Author.Tests.{eqb-true, eq-eqb, leb-true, le-leb}
@@ -55,7 +55,7 @@ pub frame_gives : (n code : ℕ) (body : List ℕ) (c : Command) (long : ℕ) �
 unfolding read_frame read_payload
 frame_gives n code body c long e = go (eqb n (suc (suc (length body)))) refl e
   where
-    go : (b : Bool) → eqb n (suc (suc (length body))) ≡ b → cond b (read_payload (code ∷ body)) (refused 2 none) ≡ gives c long → Opened n code body (counted c long)
+    go : (b : Bool) → eqb n (suc (suc (length body))) ≡ b → cond b (read_payload (code ∷ body)) (refused 2 None) ≡ gives c long → Opened n code body (counted c long)
     go false size e = absurd (not_given e)
     go true size e = let g = plain_gives (class_of code) code body c long e in (eqb-true _ _ size, g.0, g.1, g.2)
 
@@ -103,8 +103,8 @@ record Framed (s : List ℕ) (c : Command) : Type 0 where
 framed_by : (n code : ℕ) (body : List ℕ) (c : Command) → n ≡ suc (suc (length body)) → n < 256 → Accepted Plain code body c → Framed (n ∷ code ∷ body) c
 unfolding frame_of
 framed_by n code body c size small a =
-    let none : a.rest ≡ [] = plain_left c.code a.rest a.class a.left in
-    let is : body ≡ body_bytes (layout_of c.code) a.forms c = a.is ∙ rw (none, append-nil) in
+    let None : a.rest ≡ [] = plain_left c.code a.rest a.class a.left in
+    let is : body ≡ body_bytes (layout_of c.code) a.forms c = a.is ∙ rw (None, append-nil) in
     record {
       forms = a.forms;
       class = a.class;
@@ -118,7 +118,7 @@ unfolding read_frame read_payload
 framed [] c (small, long, e) = absurd (not_given e)
 framed (n ∷ []) c (small, long, e) = absurd (empty (eqb n 1) e)
   where
-    empty : (b : Bool) → cond b (refused 3 none) (refused 2 none) ≡ gives c long → ⊥
+    empty : (b : Bool) → cond b (refused 3 None) (refused 2 None) ≡ gives c long → ⊥
     empty true e = not_given e
     empty false e = not_given e
 framed (n ∷ code ∷ body) c (small, long, e) =
@@ -242,22 +242,22 @@ writable_given c w = go (class_of c.code) refl
     go Secure class = inr (c.code, secure_of [] c, payload_written c class w)
     go Unknown class = absurd (unknown_unwritable c class w)
 
-some_not_none : {s : List ℕ} → some s ≡ none → ⊥
+some_not_none : {s : List ℕ} → Some s ≡ None → ⊥
 some_not_none e = let z : ◌≡◌ {A = ℕ} 0 1 = cc in omega arith
 
-written_some : (c : Command) (s : List ℕ) → written c ≡ some s → (writable c ≡ true) × (shortest (class_of c.code) c ≡ s)
+written_some : (c : Command) (s : List ℕ) → written c ≡ Some s → (writable c ≡ true) × (shortest (class_of c.code) c ≡ s)
 unfolding written
 written_some c s e = go (writable c) refl e
   where
-    go : (b : Bool) → writable c ≡ b → cond b (some (shortest (class_of c.code) c)) none ≡ some s → (writable c ≡ true) × (shortest (class_of c.code) c ≡ s)
+    go : (b : Bool) → writable c ≡ b → cond b (Some (shortest (class_of c.code) c)) None ≡ Some s → (writable c ≡ true) × (shortest (class_of c.code) c ≡ s)
     go true w e = (w, cc)
     go false w e = absurd (some_not_none (sym e))
 
-none_written : (c : Command) → (writable c ≡ true → ⊥) → written c ≡ none
+none_written : (c : Command) → (writable c ≡ true → ⊥) → written c ≡ None
 unfolding written
 none_written c not = go (writable c) refl
   where
-    go : (b : Bool) → writable c ≡ b → cond b (some (shortest (class_of c.code) c)) none ≡ none
+    go : (b : Bool) → writable c ≡ b → cond b (Some (shortest (class_of c.code) c)) None ≡ None
     go true w = absurd (not w)
     go false w = refl
 

@@ -6,7 +6,7 @@ use mathlib.Core.Path.{◌≡◌}
 use mathlib.Core.Logic.{◌⊎◌, inl, inr}
 use mathlib.Core.Bool.{Bool, true, false, cond, ◌&&◌}
 use mathlib.Core.List.{List, [], ◌∷◌}
-use mathlib.Core.Option.{Option, none, some}
+use Rattle.std.specs.Prelude.{Option, None, Some}
 use lib.ListN.{length, get_or}
 use lib.Dec.{T, leb, ltb, eqb, leb→le}
 use Rattle.felica_format.specs.declared.classes.Class.{Class}
@@ -138,43 +138,43 @@ number least greatest i n given code low high e =
     (omega arith, omega arith, cc)
 
 -- the answer to a body
-body_number : (k : ℕ) (m : Step Counted) (n : ℕ) (code : Option ℕ) → Grounded m → answer_of k m ≡ refused n code → Number 6 20 n (some k) code
+body_number : (k : ℕ) (m : Step Counted) (n : ℕ) (code : Option ℕ) → Grounded m → answer_of k m ≡ refused n code → Number 6 20 n (Some k) code
 body_number k (taken c rest) n code g e = absurd (let z : ◌≡◌ {A = ℕ} 0 1 = cc in omega arith)
 body_number k (refuse i) n code (refuses g) e =
     let h = split (leb 6 i) (leb i 20) g in
-    number 6 20 i n (some k) code (leb→le 6 i h.0) (leb→le i 20 h.1) e
+    number 6 20 i n (Some k) code (leb→le 6 i h.0) (leb→le i 20 h.1) e
 
 from : (least lower greatest n : ℕ) (given code : Option ℕ) → lower ≤ least → Number least greatest n given code → Number lower greatest n given code
 from least lower greatest n given code low h = (omega (arith, low, h.0), h.1, h.2)
 
-plain_number : (class : Class) (k : ℕ) (s : List ℕ) (n : ℕ) (code : Option ℕ) → read_plain_as class k s ≡ refused n code → Number 4 20 n (some k) code
-plain_number Plain k s n code e = from 6 4 20 n (some k) code (omega arith) (body_number k _ n code (body_grounded k (layout_of k) s) e)
-plain_number Secure k s n code e = number 4 20 4 n (some k) code (omega arith) (omega arith) e
-plain_number Unknown k s n code e = number 4 20 5 n (some k) code (omega arith) (omega arith) e
+plain_number : (class : Class) (k : ℕ) (s : List ℕ) (n : ℕ) (code : Option ℕ) → read_plain_as class k s ≡ refused n code → Number 4 20 n (Some k) code
+plain_number Plain k s n code e = from 6 4 20 n (Some k) code (omega arith) (body_number k _ n code (body_grounded k (layout_of k) s) e)
+plain_number Secure k s n code e = number 4 20 4 n (Some k) code (omega arith) (omega arith) e
+plain_number Unknown k s n code e = number 4 20 5 n (Some k) code (omega arith) (omega arith) e
 
-secure_number : (class : Class) (k : ℕ) (s : List ℕ) (n : ℕ) (code : Option ℕ) → read_secure_as class k s ≡ refused n code → Number 5 20 n (some k) code
-secure_number Plain k s n code e = number 5 20 5 n (some k) code (omega arith) (omega arith) e
-secure_number Secure k s n code e = from 6 5 20 n (some k) code (omega arith) (body_number k _ n code (body_grounded k (layout_of k) s) e)
-secure_number Unknown k s n code e = number 5 20 5 n (some k) code (omega arith) (omega arith) e
+secure_number : (class : Class) (k : ℕ) (s : List ℕ) (n : ℕ) (code : Option ℕ) → read_secure_as class k s ≡ refused n code → Number 5 20 n (Some k) code
+secure_number Plain k s n code e = number 5 20 5 n (Some k) code (omega arith) (omega arith) e
+secure_number Secure k s n code e = from 6 5 20 n (Some k) code (omega arith) (body_number k _ n code (body_grounded k (layout_of k) s) e)
+secure_number Unknown k s n code e = number 5 20 5 n (Some k) code (omega arith) (omega arith) e
 
 -- ── the statements ──────────────────────────────────────────────────────────
 pub payload_refusals : PayloadRefusals
 unfolding read_payload
-payload_refusals [] n code e = inl (number 3 3 3 n none code (omega arith) (omega arith) e)
+payload_refusals [] n code e = inl (number 3 3 3 n None code (omega arith) (omega arith) e)
 payload_refusals (k ∷ s) n code e = inr (plain_number (class_of k) k s n code e)
 
 pub frame_refusals : FrameRefusals
 unfolding read_frame
-frame_refusals [] n code e = inl (number 1 3 1 n none code (omega arith) (omega arith) e)
+frame_refusals [] n code e = inl (number 1 3 1 n None code (omega arith) (omega arith) e)
 frame_refusals (size ∷ payload) n code e = go (eqb size (suc (length payload))) e
   where
-    wider : Number 3 3 n none code ⊎ Number 4 20 n (some (get_or payload 0 0)) code → Number 1 3 n none code ⊎ Number 4 20 n (some (get_or payload 0 0)) code
-    wider (inl h) = inl (from 3 1 3 n none code (omega arith) h)
+    wider : Number 3 3 n None code ⊎ Number 4 20 n (Some (get_or payload 0 0)) code → Number 1 3 n None code ⊎ Number 4 20 n (Some (get_or payload 0 0)) code
+    wider (inl h) = inl (from 3 1 3 n None code (omega arith) h)
     wider (inr h) = inr h
 
-    go : (b : Bool) → cond b (read_payload payload) (refused 2 none) ≡ refused n code → Number 1 3 n none code ⊎ Number 4 20 n (some (get_or payload 0 0)) code
+    go : (b : Bool) → cond b (read_payload payload) (refused 2 None) ≡ refused n code → Number 1 3 n None code ⊎ Number 4 20 n (Some (get_or payload 0 0)) code
     go true e = wider (payload_refusals payload n code e)
-    go false e = inl (number 1 3 2 n none code (omega arith) (omega arith) e)
+    go false e = inl (number 1 3 2 n None code (omega arith) (omega arith) e)
 
 pub secure_refusals : SecureRefusals
 unfolding read_secure

@@ -15,3 +15,4 @@ pub mod Grounds
 pub mod Tables
 pub mod ClassTable
 pub mod Slots
+pub mod Reasons

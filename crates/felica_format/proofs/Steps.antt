@@ -5,7 +5,7 @@ use native.Mathlib.Omega.{arith}
 use mathlib.Core.Path.{◌≡◌, refl}
 use mathlib.Core.Bool.{Bool, true, false}
 use mathlib.Core.List.{List}
-use mathlib.Core.Option.{Option}
+use Rattle.std.specs.Prelude.{Option}
 use Rattle.felica_format.specs.Basic.{Step, taken, refuse, bind, refuse_if}
 use Rattle.felica_format.specs.Command.{Command}
 use Rattle.felica_format.specs.Read.{gives, refused}

@@ -2,7 +2,7 @@
 -- "All-short means each number below 256 short and no tail": the choice [] is all-short.
 -- Assumes nothing.
 use Rattle.std.specs.Prelude.{ℕ, ◌≤◌, ◌<◌, ◌≡◌, ◌⊎◌, ◌≢◌, ◌↔◌, Bool, true, List, [], ◌∷◌, ◌++◌, length}
-use Rattle.std.proofs.Math.Option.{none, some}
+use Rattle.std.specs.Prelude.{None, Some}
 use Rattle.felica_format.specs.declared.classes.Class.TheVariants.{Plain, Secure}
 use Rattle.felica_format.specs.Basic.{Bytes, is_one_of}
 use Rattle.felica_format.specs.Command.{Command, Element, elements_of}
@@ -62,22 +62,22 @@ OtherPayloadsLonger = (c : Command) (code : ℕ) (s : List ℕ) → PayloadGives
 
 -- "and the writer writes it byte for byte"
 abbrev pub ShortFrameWritten : Type 0
-ShortFrameWritten = (c : Command) → HasFrame c → written c ≡ some (frame_of [] c)
+ShortFrameWritten = (c : Command) → HasFrame c → written c ≡ Some (frame_of [] c)
 
 abbrev pub ShortPayloadWritten : Type 0
-ShortPayloadWritten = (c : Command) → HasPayload c → written c ≡ some (secure_of [] c)
+ShortPayloadWritten = (c : Command) → HasPayload c → written c ≡ Some (secure_of [] c)
 
 -- "The writer says unwritable exactly when no accepted frame and no accepted secure payload gives the command." The payload may be of any code, and
 -- the three lists of the elements of any lengths.
 abbrev pub UnwritableExactly : Type 0
-UnwritableExactly = (c : Command) → (written c ≡ none) ↔ ((¬ HasFrame c) × (¬ HasPayload c))
+UnwritableExactly = (c : Command) → (written c ≡ None) ↔ ((¬ HasFrame c) × (¬ HasPayload c))
 
 -- "What the writer writes, the parser reads as the command given."
 abbrev pub FrameReadBack : Type 0
-FrameReadBack = (c : Command) (s : List ℕ) → class_of c.code ≡ Plain → written c ≡ some s → (length s ≤ 255) × FrameGives s c
+FrameReadBack = (c : Command) (s : List ℕ) → class_of c.code ≡ Plain → written c ≡ Some s → (length s ≤ 255) × FrameGives s c
 
 abbrev pub PayloadReadBack : Type 0
-PayloadReadBack = (c : Command) (s : List ℕ) → class_of c.code ≡ Secure → written c ≡ some s → PayloadGives c.code s c
+PayloadReadBack = (c : Command) (s : List ℕ) → class_of c.code ≡ Secure → written c ≡ Some s → PayloadGives c.code s c
 
 -- the list is `before`, the command's elements in some forms, and `after`
 abbrev pub Around : Command → List ℕ → List ℕ → List ℕ → Type 0

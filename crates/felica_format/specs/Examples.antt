@@ -2,7 +2,7 @@
 -- proofs/Examples.antt proves each of the layouts themselves.
 -- Assumes nothing.
 use Rattle.std.specs.Prelude.{ℕ, suc, ◌≡◌, cond, List, [], ◌∷◌, ◌++◌, map, length, get_or, ltb}
-use Rattle.std.proofs.Math.Option.{none, some}
+use Rattle.std.specs.Prelude.{None, Some}
 use Rattle.felica_format.specs.Basic.{zeros}
 use Rattle.felica_format.specs.Command.{Element, EndFields, end_fields, command_of, no_fields}
 use Rattle.felica_format.specs.Read.{Answer, gives, refused, read_frame, read_secure}
@@ -24,7 +24,7 @@ I8 = 0x01 ∷ 0x02 ∷ 0x03 ∷ 0x04 ∷ 0x05 ∷ 0x06 ∷ 0x07 ∷ 0x08 ∷ []
 
 -- a frame is refused on the ground n: "its number and, from 4 up, the command code"
 abbrev pub refused_on : ℕ → List ℕ → Example
-refused_on n frame = read_frame frame answers refused n (cond (ltb n 4) none (some (get_or frame 1 0)))
+refused_on n frame = read_frame frame answers refused n (cond (ltb n 4) None (Some (get_or frame 1 0)))
 
 -- "The twelve starred rows are proved of the layouts themselves as a table with a shared theorem"
 unfoldable pub starred : List Example
@@ -74,7 +74,7 @@ slips =
     -- a secure read ignores its tail
     ∷ (read_secure 0x14 (0x01 ∷ 0x25 ∷ 0x00 ∷ 0x01 ∷ 0xAA ∷ []) answers gives (command_of 0x14 (zeros 8) 0 [] [] (element 256 5 2 ∷ []) [] no_fields []) 1)
     -- a plain code is unknown among the secure ones
-    ∷ (read_secure 0x04 [] answers refused 5 (some 0x04))
+    ∷ (read_secure 0x04 [] answers refused 5 (Some 0x04))
     ∷ []
 
 -- a frame of the code and the body

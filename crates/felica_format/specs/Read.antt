@@ -2,7 +2,7 @@
 -- A part that the layout lacks takes nothing and gives zero or empty. "Checks follow field order, count before list".
 -- Assumes nothing.
 use Rattle.std.specs.Prelude.{ℕ, zero, suc, ◌+◌, ◌-◌, ◌*◌, ◌/◌, ◌%◌, Bool, true, false, not, ◌||◌, cond, List, [], ◌∷◌, ◌++◌, map, length, get_or, take, drop, ltb, eqb}
-use Rattle.std.proofs.Math.Option.{Option, none, some}
+use Rattle.std.specs.Prelude.{Option, None, Some}
 use Rattle.std.specs.Int.Bits.{bit_and}
 use Rattle.felica_format.specs.declared.classes.Class.{Class}
 use Rattle.felica_format.specs.declared.classes.Class.TheVariants.{Plain, Secure, Unknown}
@@ -171,29 +171,29 @@ pub data Answer : Type 0 where
 
 abbrev pub answer_of : ℕ → Step Counted → Answer
 answer_of code (taken r rest) = gives r.command r.long
-answer_of code (refuse n) = refused n (some code)
+answer_of code (refuse n) = refused n (Some code)
 
 -- 4: secure code in a plain frame; 5: code unknown here
 abbrev pub read_plain_as : Class → ℕ → List ℕ → Answer
 read_plain_as Plain code s = answer_of code (read_body code (layout_of code) s)
-read_plain_as Secure code s = refused 4 (some code)
-read_plain_as Unknown code s = refused 5 (some code)
+read_plain_as Secure code s = refused 4 (Some code)
+read_plain_as Unknown code s = refused 5 (Some code)
 
 -- "A plain code there is unsupported."
 abbrev pub read_secure_as : Class → ℕ → List ℕ → Answer
-read_secure_as Plain code s = refused 5 (some code)
+read_secure_as Plain code s = refused 5 (Some code)
 read_secure_as Secure code s = answer_of code (read_body code (layout_of code) s)
-read_secure_as Unknown code s = refused 5 (some code)
+read_secure_as Unknown code s = refused 5 (Some code)
 
 -- the code byte and the body; 3: payload empty
 unfoldable pub read_payload : List ℕ → Answer
-read_payload [] = refused 3 none
+read_payload [] = refused 3 None
 read_payload (code ∷ body) = read_plain_as (class_of code) code body
 
 -- the length byte, which counts itself, and the payload; 1: empty frame; 2: length byte is not the frame's size
 unfoldable pub read_frame : List ℕ → Answer
-read_frame [] = refused 1 none
-read_frame (n ∷ payload) = cond (eqb n (suc (length payload))) (read_payload payload) (refused 2 none)
+read_frame [] = refused 1 None
+read_frame (n ∷ payload) = cond (eqb n (suc (length payload))) (read_payload payload) (refused 2 None)
 
 -- the decrypted payload of a secure code
 unfoldable pub read_secure : ℕ → List ℕ → Answer

@@ -2,7 +2,7 @@
 -- This need not be believed: the statements of Demand3.antt on `written` say what it is, in terms of reading and of `frame_of` and `secure_of`.
 -- Assumes nothing.
 use Rattle.std.specs.Prelude.{ℕ, ◌*◌, ◌-◌, Bool, true, false, cond, List, [], ◌∷◌, length, drop, ltb, leb, eqb}
-use Rattle.std.proofs.Math.Option.{Option, none, some}
+use Rattle.std.specs.Prelude.{Option, None, Some}
 use Rattle.felica_format.specs.declared.classes.Class.{Class}
 use Rattle.felica_format.specs.declared.classes.Class.TheVariants.{Plain, Secure, Unknown}
 use Rattle.felica_format.specs.Basic.{◌and◌, zeros, all_below}
@@ -132,4 +132,4 @@ shortest Unknown c = []
 
 -- what the writer writes; none where the command is unwritable
 unfoldable pub written : Command → Option (List ℕ)
-written c = cond (writable c) (some (shortest (class_of c.code) c)) none
+written c = cond (writable c) (Some (shortest (class_of c.code) c)) None

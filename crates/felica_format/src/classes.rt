@@ -3,20 +3,20 @@ ghost use Rattle.std.specs.Prelude.{◌≡◌};
 ghost use Rattle.felica_format.specs.Layout.{class_of};
 
 // Plain commands are sent as frames; the payload of a secure one is encrypted.
-#[derive(Clone, Copy)]
+#[derive(Clone, Copy, Debug, PartialEq, Eq)]
 pub enum Class {
     Plain,
     Secure,
     Unknown,
 }
 
-const UNKNOWN: u8 = 0;
+const UNKNOWN: Class = Class::Unknown;
 
-const PLAIN: u8 = 1;
+const PLAIN: Class = Class::Plain;
 
-const SECURE: u8 = 2;
+const SECURE: Class = Class::Secure;
 
-const CLASSES: [u8; 256] = [
+static CLASSES: [Class; 256] = [
     PLAIN, // 00
     UNKNOWN, // 01
     PLAIN, // 02
@@ -278,10 +278,5 @@ const CLASSES: [u8; 256] = [
 pub fn class_of(code: u8) -> Class
     ensures { result ≡ class_of code }
 {
-    let class = CLASSES[code as usize];
-    match class {
-        PLAIN => Class::Plain,
-        SECURE => Class::Secure,
-        _ => Class::Unknown,
-    }
+    CLASSES[code as usize]
 }

@@ -1,7 +1,6 @@
 // The constants of constants.rs that the commands use, under its names, and the functions that read its tables or stand in place of one.
 // Limits of counts are bytes, as the counts are.
 ghost use Rattle.std.specs.Prelude.{◌≡◌, leb};
-ghost use Rattle.felica_format.specs.Basic.{is_one_of};
 ghost use Rattle.felica_format.specs.Layout.{bounds_at};
 ghost use Rattle.felica_format.specs.Read.{is_time_slots};
 
@@ -91,7 +90,7 @@ pub const REGISTER_SERVICE_COMMAND_CODE: u8 = 0x84;
 pub const CHANGE_SYSTEM_BLOCK_COMMAND_CODE: u8 = 0x8E;
 
 // The least and the greatest count of a list of codes.
-#[derive(Clone, Copy)]
+#[derive(Clone, Copy, Debug, PartialEq, Eq)]
 pub struct Bounds {
     pub least: u8,
     pub greatest: u8,
@@ -165,7 +164,11 @@ pub const MAX_BLOCK_COUNT: u8 = 0xFF;
 pub fn bounds_at(row: usize) -> Bounds
     ensures { result ≡ bounds_at row }
 {
-    if row < 25 { BOUNDS[row] } else { NO_CODES }
+    if row < BOUNDS.len() {
+        BOUNDS[row]
+    } else {
+        NO_CODES
+    }
 }
 
 const POLLING_REQUEST_CODES: [u8; 3] = [0x00, 0x01, 0x02];
@@ -173,7 +176,7 @@ const POLLING_REQUEST_CODES: [u8; 3] = [0x00, 0x01, 0x02];
 pub fn is_polling_request_code(value: u8) -> bool
     ensures { result ≡ leb value 2 }
 {
-    contains(&POLLING_REQUEST_CODES, value)
+    POLLING_REQUEST_CODES.contains(&value)
 }
 
 // In place of the Rust's POLLING_TIME_SLOTS: a value below 16 that shares no set bit with its successor.
@@ -181,17 +184,4 @@ pub fn is_polling_time_slot(value: u8) -> bool
     ensures { result ≡ is_time_slots value }
 {
     value < 16 && value & (value + 1) == 0
-}
-
-fn contains(table: &[u8], value: u8) -> bool
-    ensures { result ≡ is_one_of table.now value }
-{
-    let mut i = 0;
-    while i < table.len() {
-        if table[i] == value {
-            return true;
-        }
-        i += 1;
-    }
-    false
 }

@@ -3,7 +3,7 @@
 use Rattle.std.proofs.Common.{ℕ, suc, ◌≤◌, ◌≡◌, ◌⊎◌, inl, inr, refl, sym, ap, ◌∙◌, subst, Bool, true, false, cond, ◌||◌, List, [], ◌∷◌, map, length, get_or, length-append, arith}
 use Rattle.std.proofs.lemmas.List.{length-map}
 use Rattle.std.proofs.Math.Dec.{ltb, eqb}
-use Rattle.std.proofs.Math.Option.{Option, none, some}
+use Rattle.std.specs.Prelude.{Option, None, Some}
 use Rattle.std.proofs.lemmas.Bool.{ltb-false}
 use Rattle.felica_format.specs.declared.classes.Class.{Class}
 use Rattle.felica_format.specs.declared.classes.Class.TheVariants.{Plain, Secure, Unknown}
@@ -109,7 +109,7 @@ unfolding read_frame
 frame_few [] c long h = absurd (not_given h)
 frame_few (n ∷ payload) c long h = by_size (eqb n (suc (length payload))) h
   where
-    by_size : (test : Bool) → cond test (read_payload payload) (refused 2 none) ≡ gives c long → Listed c long
+    by_size : (test : Bool) → cond test (read_payload payload) (refused 2 None) ≡ gives c long → Listed c long
     by_size true h = payload_few payload c long h
     by_size false h = absurd (not_given h)
 
@@ -143,10 +143,10 @@ accepted_length code codes blocks long few within most =
     simp (length-append) (omega arith)
 
 refused_length : (n : ℕ) (code : Option ℕ) → n ≤ 20 → length (refused_text n code) ≤ 81
-refused_length n none h = let digits = decimal_length 1 n (omega arith) in simp (length-append) (omega arith)
-refused_length n (some code) h = let digits = decimal_length 1 n (omega arith) in simp (length-append) (omega arith)
+refused_length n None h = let digits = decimal_length 1 n (omega arith) in simp (length-append) (omega arith)
+refused_length n (Some code) h = let digits = decimal_length 1 n (omega arith) in simp (length-append) (omega arith)
 
-number_few : (s : List ℕ) (n : ℕ) (code : Option ℕ) → Number 1 3 n none code ⊎ Number 4 20 n (some (get_or s 1 0)) code → n ≤ 20
+number_few : (s : List ℕ) (n : ℕ) (code : Option ℕ) → Number 1 3 n None code ⊎ Number 4 20 n (Some (get_or s 1 0)) code → n ≤ 20
 number_few s n code (inl x) = omega (arith, x.1)
 number_few s n code (inr x) = x.1
 

@@ -1,14 +1,14 @@
 -- The steps of the list reader: the lists of a command's parts, written where every buffer has room, and the result that goes with them.
 -- Assumes nothing.
-use Rattle.std.specs.Prelude.{ℕ, Bool, true, false, cond, List, map}
-use Rattle.std.proofs.Math.Option.{some}
+use Rattle.std.specs.Prelude.{ℕ, Bool, ◌&&◌, cond, List, map, length, leb, Some, Result, Ok, Err}
 use Rattle.felica_command.specs.Meaning.{codes_at, elements_at, fields_of, refusal}
 use Rattle.felica_command.specs.Places.{CodesInside, ElementsInside}
 use Rattle.felica_command.specs.Lists.{lists_in}
 use Rattle.felica_command.specs.declared.command.Part.{Part}
-use Rattle.felica_command.specs.declared.command.Answer.{Answer}
-use Rattle.felica_command.specs.declared.command.Answer.TheVariants.{Command as AnswerCommand, Refused as AnswerRefused}
 use Rattle.felica_command.specs.declared.command.Parsed.{Parsed}
+use Rattle.felica_command.specs.declared.command.Refusal.{Refusal}
+use Rattle.felica_format.specs.declared.error.Reason.{Reason}
+use Rattle.felica_format.specs.declared.error.Reason.TheVariants.{BufferTooSmall}
 use Rattle.felica_command.specs.declared.lists.Lists.{Lists}
 use Rattle.felica_lists.specs.Lists.{Buffers, buffers, fits, fronts}
 
@@ -32,32 +32,34 @@ lists_at s l =
 abbrev pub ListsInside : List ℕ → Lists → Type 0
 ListsInside s l = CodesInside s l.first_codes × CodesInside s l.second_codes × ElementsInside s l.block_list
 
+-- no buffer is shorter than its list
+abbrev pub room_for : Lists → Buffers → Bool
+room_for l b =
+    leb l.first_codes.count (length b.first) && (leb l.second_codes.count (length b.second) && (leb l.block_list.count (length b.numbers)
+    && (leb l.block_list.count (length b.places) && leb l.block_list.count (length b.modes))))
+
 -- whether all lists are written, and the buffers
 pub record Filled : Type 0 where
-  pub done : Bool
+  pub done : Result (Unit {0}) Reason
   pub buffers : Buffers
 
-abbrev pub filled : Bool → Buffers → Filled
+abbrev pub filled : Result (Unit {0}) Reason → Buffers → Filled
 filled done b = record { done = done; buffers = b }
 
 abbrev pub fill : Buffers → Buffers → Filled
-fill lists b = cond (fits lists b) (filled true (fronts lists b)) (filled false b)
+fill lists b = cond (fits lists b) (filled (Ok tt) (fronts lists b)) (filled (Err BufferTooSmall) b)
 
 -- a result, and the buffers that go with it
 pub record Given : Type 0 where
-  pub result : Parsed
+  pub result : Result Parsed Refusal
   pub buffers : Buffers
 
-abbrev pub given : Parsed → Buffers → Given
+abbrev pub given : Result Parsed Refusal → Buffers → Given
 given result b = record { result = result; buffers = b }
 
 -- what the list reader makes of a result of the parser
-abbrev pub give_filled : Parsed → ℕ → Filled → Given
-give_filled parsed code f = given (cond f.done parsed (refusal 21 (some code))) f.buffers
-
-abbrev pub give_answer : List ℕ → Parsed → Answer → Buffers → Given
-give_answer s parsed (AnswerCommand kind) b = give_filled parsed (fields_of kind).code (fill (lists_at s (lists_in (fields_of kind))) b)
-give_answer s parsed (AnswerRefused why) b = given parsed b
-
-abbrev pub give : List ℕ → Parsed → Buffers → Given
-give s parsed b = give_answer s parsed parsed.answer b
+abbrev pub give : List ℕ → Result Parsed Refusal → Buffers → Given
+give s (Ok p) b =
+    let lists = lists_at s (lists_in (fields_of p.command)) in
+    cond (fits lists b) (given (Ok p) (fronts lists b)) (given (Err (refusal BufferTooSmall (Some (fields_of p.command).code))) b)
+give s (Err why) b = given (Err why) b

@@ -1,7 +1,7 @@
 -- The list reader: what it answers, and what the five lent buffers hold then.
 -- Assumes nothing.
 use Rattle.std.specs.Prelude.{ℕ, Bool, true, false, List, ◌++◌, length, drop, leb}
-use Rattle.std.proofs.Math.Option.{some}
+use Rattle.std.specs.Prelude.{Some}
 use Rattle.felica_format.specs.Basic.{◌and◌}
 use Rattle.felica_format.specs.Command.{Command}
 use Rattle.felica_format.specs.Read.{Answer as Reading, gives, refused}
@@ -48,7 +48,7 @@ outcome answer b = record { answer = answer; buffers = b }
 -- "It parses first, then gives 21 exactly when a buffer is shorter than its list."
 abbrev pub listed_if : Bool → Command → ℕ → Buffers → Outcome
 listed_if true c long b = outcome (gives c long) (fronts (lists_of c) b)
-listed_if false c long b = outcome (refused 21 (some c.code)) b
+listed_if false c long b = outcome (refused 21 (Some c.code)) b
 
 -- the outcome for what the bytes give and the buffers before the call
 abbrev pub listed : Reading → Buffers → Outcome

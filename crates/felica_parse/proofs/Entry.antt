@@ -5,7 +5,7 @@ use native.Mathlib.Omega.{arith}
 use mathlib.Core.Path.{◌≡◌, refl, sym, ap, ◌∙◌, subst}
 use mathlib.Core.Logic.{⊎_elim}
 use mathlib.Core.List.{List, [], ◌∷◌}
-use mathlib.Core.Option.{none}
+use Rattle.std.specs.Prelude.{None}
 use lib.ListN.{length, get_or, drop}
 use Rattle.felica_format.specs.declared.classes.Class.{Class}
 use Rattle.felica_format.specs.declared.classes.Class.TheVariants.{Plain}
@@ -19,7 +19,7 @@ use Rattle.felica_cursor.specs.Body.{BodyRead}
 use Rattle.felica_parse.specs.Codes.{CodeListCode, IdmAloneCode, WordCode, ReservedCode}
 
 -- a payload of no bytes; one that begins with a code
-pub payload_empty : (s : List ℕ) → length s ≡ 0 → read_payload s ≡ refused 3 none
+pub payload_empty : (s : List ℕ) → length s ≡ 0 → read_payload s ≡ refused 3 None
 unfolding read_payload
 payload_empty [] h = refl
 payload_empty (x ∷ xs) h = absurd (omega arith)

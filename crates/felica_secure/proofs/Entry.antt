@@ -6,7 +6,7 @@ use mathlib.Core.Path.{◌≡◌, refl, sym, subst}
 use mathlib.Core.Logic.{inl, inr, ⊎_elim}
 use mathlib.Core.Bool.{Bool, true, false, cond}
 use mathlib.Core.List.{List}
-use mathlib.Core.Option.{some}
+use Rattle.std.specs.Prelude.{Some}
 use borrow.Author.Tests.{ne_eqb}
 use Rattle.felica_format.specs.declared.classes.Class.{Class}
 use Rattle.felica_format.specs.declared.classes.Class.TheVariants.{Plain, Secure, Unknown}
@@ -45,12 +45,12 @@ not_secure code h0 h1 h2 h3 h4 e =
     (simp
     (ne_eqb code 0x14 (λ e. h0 (inl e)), ne_eqb code 0x16 (λ e. h1 (inl e)), ne_eqb code 0x44 (λ e. h0 (inr e)), ne_eqb code 0x46 (λ e. h1 (inr e)), ne_eqb code 0x80 h2, ne_eqb code 0x82 (λ e. h3 (inl e)), ne_eqb code 0x84 (λ e. h3 (inr e)), ne_eqb code 0x8E h4) at e)
 
-refused_unless_secure : (k : Class) (code : ℕ) (s : List ℕ) → (k ≡ Secure → ⊥) → read_secure_as k code s ≡ refused 5 (some code)
+refused_unless_secure : (k : Class) (code : ℕ) (s : List ℕ) → (k ≡ Secure → ⊥) → read_secure_as k code s ≡ refused 5 (Some code)
 refused_unless_secure Plain code s h = refl
 refused_unless_secure Secure code s h = absurd (h refl)
 refused_unless_secure Unknown code s h = refl
 
-pub secure_refused : (code : ℕ) (s : List ℕ) → (class_of code ≡ Secure → ⊥) → read_secure code s ≡ refused 5 (some code)
+pub secure_refused : (code : ℕ) (s : List ℕ) → (class_of code ≡ Secure → ⊥) → read_secure code s ≡ refused 5 (Some code)
 unfolding read_secure
 secure_refused code s h = refused_unless_secure (class_of code) code s h
 

@@ -2,7 +2,7 @@
 -- Assumes nothing.
 use Rattle.std.proofs.Common.{ℕ, suc, ◌+◌, ◌≤◌, ◌<◌, ◌≡◌, refl, sym, ap, ◌∙◌, subst, ◌⊎◌, inl, inr, Bool, true, false, cond, List, [], ◌∷◌, ◌++◌, arith}
 use Rattle.std.proofs.Common.{length, ltb, Ok, Err, is_ok}
-use Rattle.std.proofs.Math.Option.{some}
+use Rattle.std.specs.Prelude.{Some}
 use Rattle.std.proofs.lemmas.Bool.{lt-ltb, le-ltb, le-leb, lt-leb, ltb-true, ltb-false}
 use Rattle.felica_format.specs.declared.classes.Class.{Class}
 use Rattle.felica_format.specs.declared.classes.Class.TheVariants.{Plain, Secure, Unknown}
@@ -24,12 +24,12 @@ use Rattle.felica_write.proofs.Ready.{ready, body_length}
 
 -- the three outcomes
 module _ (c : Command) (out : List ℕ) where
-  pub unwritten : writable c ≡ false → outcome (refused 22 (some c.code)) out ≡ writing c out
+  pub unwritten : writable c ≡ false → outcome (refused 22 (Some c.code)) out ≡ writing c out
   unfolding writing written
   unwritten e = rw e
 
   module _ (s : List ℕ) (ok : writable c ≡ true) (is : shortest (class_of c.code) c ≡ s) where
-    pub buffer_small : length out < length s → outcome (refused 21 (some c.code)) out ≡ writing c out
+    pub buffer_small : length out < length s → outcome (refused 21 (Some c.code)) out ≡ writing c out
     unfolding writing written
     buffer_small h = rw (ok, is, lt-ltb (length out) (length s) h)
 
@@ -73,7 +73,7 @@ module _ (c : Command) (k : Class) (l : Layout) (found : row k l ≡ row_of c.co
   unfolding secure_of
   payload_is = rw layout_is
 
-  pub no_body : (out : List ℕ) → body_ok l c ≡ false → outcome (refused 22 (some c.code)) out ≡ writing c out
+  pub no_body : (out : List ℕ) → body_ok l c ≡ false → outcome (refused 22 (Some c.code)) out ≡ writing c out
   unfolding writable
   no_body out e = unwritten c out (sym (stop _ _ (ap (λ (m : Layout). body_ok m c) (sym layout_is) ∙ e)))
 
@@ -85,9 +85,9 @@ module _ (c : Command) (k : Class) (l : Layout) (found : row k l ≡ row_of c.co
     -- a plain command has no package
     plain_whole : k ≡ Plain → suc (suc (length (body_bytes l [] c))) ≡ 2 + size
     plain_whole e =
-        let none = plain_package c.code c.issue_package (sym class_is ∙ e) in
+        let None = plain_package c.code c.issue_package (sym class_is ∙ e) in
         let all = (ready l c narrow ok).all_package in
-        let empty : length c.issue_package ≡ 0 = ap length (sym all ∙ ap (λ (m : Layout). package_bytes m.behind c.issue_package) layout_is ∙ none) in
+        let empty : length c.issue_package ≡ 0 = ap length (sym all ∙ ap (λ (m : Layout). package_bytes m.behind c.issue_package) layout_is ∙ None) in
         omega (arith, whole, empty)
 
     module _ (out : List ℕ) where
@@ -137,14 +137,14 @@ module _ (c : Command) (k : Class) (l : Layout) (found : row k l ≡ row_of c.co
       unfolding writable
       may b e = sym (pass _ _ (ap (λ (m : Layout). body_ok m c) (sym layout_is) ∙ ok)) ∙ ap (λ (j : Class). fits_class j c) (sym class_is) ∙ e
 
-      no_room : (g : ℕ) → room_for k size (length c.issue_package) (length out) ≡ Err g → outcome (refused g (some c.code)) out ≡ writing c out
+      no_room : (g : ℕ) → room_for k size (length c.issue_package) (length out) ≡ Err g → outcome (refused g (Some c.code)) out ≡ writing c out
       unfolding Ground
       no_room g r = elim (ground k g refl r) [ inl h ↦ does_not_fit h | inr h ↦ too_small h ]
         where
-          does_not_fit : (g ≡ 22) × (fits_class k c ≡ false) → outcome (refused g (some c.code)) out ≡ writing c out
+          does_not_fit : (g ≡ 22) × (fits_class k c ≡ false) → outcome (refused g (Some c.code)) out ≡ writing c out
           does_not_fit h = rw h.0 (unwritten c out (may false h.1))
 
-          too_small : (g ≡ 21) × (fits_class k c ≡ true) × (length out < length (shortest k c)) → outcome (refused g (some c.code)) out ≡ writing c out
+          too_small : (g ≡ 21) × (fits_class k c ≡ true) × (length out < length (shortest k c)) → outcome (refused g (Some c.code)) out ≡ writing c out
           too_small h = rw h.0 (buffer_small c out (shortest k c) (may true h.1) (ap (λ (j : Class). shortest j c) (sym class_is)) h.2)
 
       -- the same of a result that has the number of the refusal

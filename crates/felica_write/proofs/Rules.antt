@@ -1,7 +1,7 @@
 -- The rules of the writer and of reading back, from the contracts of the writer and the parser and the theorems of felica_format.
 -- Assumes nothing.
 use Rattle.std.proofs.Common.{ℕ, ◌≤◌, ◌<◌, ◌≡◌, refl, sym, ap, ◌∙◌, subst, ◌⊎◌, inl, inr, ◌↔◌, Bool, true, false, List, [], ◌++◌, length, take, drop, arith, Ok, Err}
-use Rattle.std.proofs.Math.Option.{Option, none, some}
+use Rattle.std.specs.Prelude.{Option, None, Some}
 use Rattle.std.proofs.Math.Seq.{take-append_seam, drop-append_seam}
 use Rattle.std.proofs.Math.Dec.{ltb}
 use Rattle.std.proofs.lemmas.Bool.{ltb-true, ltb-false, lt-ltb, le-ltb}
@@ -48,7 +48,7 @@ one_writer_account c b r t a e p q =
 -- the bytes are written exactly where a buffer holds them
 record Stored (c : Command) (b : List ℕ) (n : ℕ) (a : List ℕ) : Type 0 where
   bytes : List ℕ
-  is : written c ≡ some bytes
+  is : written c ≡ Some bytes
   room : length bytes ≤ length b
   size : n ≡ length bytes
   held : a ≡ bytes ++ drop (length bytes) b
@@ -60,15 +60,15 @@ stored_of : (c : Command) (b : List ℕ) (n : ℕ) (a : List ℕ) → WriterAcco
 unfolding writing
 stored_of c b n a e = go (written c) refl e
   where
-    fit : (s : List ℕ) (small : Bool) → ltb (length b) (length s) ≡ small → written c ≡ some s → outcome (wrote n) a ≡ stored small c.code s b → Stored c b n a
+    fit : (s : List ℕ) (small : Bool) → ltb (length b) (length s) ≡ small → written c ≡ Some s → outcome (wrote n) a ≡ stored small c.code s b → Stored c b n a
     fit s true q w e = absurd (wrote_not (ap (λ o. o.answer) e))
     fit s false q w e =
         let answer = ap (λ o. o.answer) e in
         record { bytes = s; is = w; room = ltb-false (length b) (length s) q; size = cc; held = ap (λ o. o.buffer) e }
 
     go : (w : Option (List ℕ)) → written c ≡ w → outcome (wrote n) a ≡ store c.code w b → Stored c b n a
-    go none q e = absurd (wrote_not (ap (λ o. o.answer) e))
-    go (some s) q e = fit s (ltb (length b) (length s)) refl q e
+    go None q e = absurd (wrote_not (ap (λ o. o.answer) e))
+    go (Some s) q e = fit s (ltb (length b) (length s)) refl q e
 
 pub refused_untouched : RefusedUntouched
 unfolding writing
@@ -79,20 +79,20 @@ refused_untouched c b r a n code e said = go (written c) (ap (λ o. o.buffer) e)
     fit s false held answer = absurd (wrote_not (sym answer))
 
     go : (w : Option (List ℕ)) → a ≡ (store c.code w b).buffer → refused n code ≡ (store c.code w b).answer → a ≡ b
-    go none held answer = held
-    go (some s) held answer = fit s (ltb (length b) (length s)) held answer
+    go None held answer = held
+    go (Some s) held answer = fit s (ltb (length b) (length s)) held answer
 
 pub two_refusals : TwoRefusals
 unfolding writing
 two_refusals c b r a n code e said = go (written c) (sym said ∙ ap (λ o. o.answer) e)
   where
-    fit : (s : List ℕ) (small : Bool) → refused n code ≡ (stored small c.code s b).answer → (code ≡ some c.code) × ((n ≡ 21) ⊎ (n ≡ 22))
+    fit : (s : List ℕ) (small : Bool) → refused n code ≡ (stored small c.code s b).answer → (code ≡ Some c.code) × ((n ≡ 21) ⊎ (n ≡ 22))
     fit s true answer = (cc, inl cc)
     fit s false answer = absurd (wrote_not (sym answer))
 
-    go : (w : Option (List ℕ)) → refused n code ≡ (store c.code w b).answer → (code ≡ some c.code) × ((n ≡ 21) ⊎ (n ≡ 22))
-    go none answer = (cc, inr cc)
-    go (some s) answer = fit s (ltb (length b) (length s)) answer
+    go : (w : Option (List ℕ)) → refused n code ≡ (store c.code w b).answer → (code ≡ Some c.code) × ((n ≡ 21) ⊎ (n ≡ 22))
+    go None answer = (cc, inr cc)
+    go (Some s) answer = fit s (ltb (length b) (length s)) answer
 
 not_both : {j k : Option ℕ} → refused 21 j ≡ refused 22 k → ⊥
 not_both e = cc
@@ -101,29 +101,29 @@ pub twenty_one_exactly : TwentyOneExactly
 unfolding writing
 twenty_one_exactly c b r a e = (λ said. there (written c) refl (sym said ∙ ap (λ o. o.answer) e), λ (s, w, small). back s w small)
   where
-    short : (s : List ℕ) (small : Bool) → ltb (length b) (length s) ≡ small → written c ≡ some s
-        → refused 21 (some c.code) ≡ (stored small c.code s b).answer → (t : List ℕ) × (written c ≡ some t) × (length b < length t)
+    short : (s : List ℕ) (small : Bool) → ltb (length b) (length s) ≡ small → written c ≡ Some s
+        → refused 21 (Some c.code) ≡ (stored small c.code s b).answer → (t : List ℕ) × (written c ≡ Some t) × (length b < length t)
     short s true q w said = (s, w, ltb-true (length b) (length s) q)
     short s false q w said = absurd (wrote_not (sym said))
 
-    there : (w : Option (List ℕ)) → written c ≡ w → refused 21 (some c.code) ≡ (store c.code w b).answer
-        → (t : List ℕ) × (written c ≡ some t) × (length b < length t)
-    there none q said = absurd (not_both said)
-    there (some s) q said = short s (ltb (length b) (length s)) refl q said
+    there : (w : Option (List ℕ)) → written c ≡ w → refused 21 (Some c.code) ≡ (store c.code w b).answer
+        → (t : List ℕ) × (written c ≡ Some t) × (length b < length t)
+    there None q said = absurd (not_both said)
+    there (Some s) q said = short s (ltb (length b) (length s)) refl q said
 
-    back : (s : List ℕ) → written c ≡ some s → length b < length s → meaning r ≡ refused 21 (some c.code)
+    back : (s : List ℕ) → written c ≡ Some s → length b < length s → meaning r ≡ refused 21 (Some c.code)
     back s w small =
         ap (λ o. o.answer) e ∙ ap (λ x. (store c.code x b).answer) w
         ∙ ap (λ (t : Bool). (stored t c.code s b).answer) (lt-ltb (length b) (length s) small)
 
 -- of the bytes that the definition writes
-twenty_one_of : (c : Command) (s b : List ℕ) (r : Written) (a : List ℕ) → written c ≡ some s → WriterAccount c b r a
-    → (meaning r ≡ refused 21 (some c.code)) ↔ (length b < length s)
+twenty_one_of : (c : Command) (s b : List ℕ) (r : Written) (a : List ℕ) → written c ≡ Some s → WriterAccount c b r a
+    → (meaning r ≡ refused 21 (Some c.code)) ↔ (length b < length s)
 twenty_one_of c s b r a w e =
     let exactly = twenty_one_exactly c b r a e in
     (λ said. same (exactly.0 said), λ small. exactly.1 (s, w, small))
   where
-    same : (t : List ℕ) × (written c ≡ some t) × (length b < length t) → length b < length s
+    same : (t : List ℕ) × (written c ≡ Some t) × (length b < length t) → length b < length s
     same (t, v, small) = let is : t ≡ s = cc in subst (λ (u : List ℕ). length b < length u) is small
 
 pub frame_twenty_one : FrameTwentyOne
@@ -139,13 +139,13 @@ twenty_two_exactly c b r a e = (
   λ neither. ap (λ o. o.answer) e ∙ ap (λ x. (store c.code x b).answer) ((unwritable_exactly c).1 neither),
 )
   where
-    short : (s : List ℕ) (small : Bool) → refused 22 (some c.code) ≡ (stored small c.code s b).answer → ⊥
+    short : (s : List ℕ) (small : Bool) → refused 22 (Some c.code) ≡ (stored small c.code s b).answer → ⊥
     short s true said = not_both (sym said)
     short s false said = wrote_not (sym said)
 
-    there : (w : Option (List ℕ)) → written c ≡ w → refused 22 (some c.code) ≡ (store c.code w b).answer → written c ≡ none
-    there none q said = q
-    there (some s) q said = absurd (short s (ltb (length b) (length s)) said)
+    there : (w : Option (List ℕ)) → written c ≡ w → refused 22 (Some c.code) ≡ (store c.code w b).answer → written c ≡ None
+    there None q said = q
+    there (Some s) q said = absurd (short s (ltb (length b) (length s)) said)
 
 -- what the parser reads is what the bytes give, and the other way round
 frame_gives : (c : Command) (s : List ℕ) (p : Parsed) → Bytes s → FrameParsed s p → FrameIs s p c → FrameGives s c
@@ -192,7 +192,7 @@ written_payload_read c b n a p secure e parsed =
     payload_is c c.code (take n a) p parsed (subst (λ (s : List ℕ). PayloadGives c.code s c) (sym (front c b n a h)) back)
 
 -- with room for it, the writer writes the bytes of the definition
-written_whole : (c : Command) (s b : List ℕ) (r : Written) (a : List ℕ) → written c ≡ some s → length s ≤ length b → WriterAccount c b r a
+written_whole : (c : Command) (s b : List ℕ) (r : Written) (a : List ℕ) → written c ≡ Some s → length s ≤ length b → WriterAccount c b r a
     → (r ≡ Ok (length s)) × (a ≡ s ++ drop (length s) b)
 unfolding writing
 written_whole c s b r a w room e =

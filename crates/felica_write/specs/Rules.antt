@@ -2,7 +2,7 @@
 -- name in proofs/Rules.antt.
 -- Assumes nothing.
 use Rattle.std.specs.Prelude.{ℕ, ◌≤◌, ◌<◌, ◌≡◌, ◌⊎◌, ◌≢◌, ◌↔◌, List, [], ◌∷◌, ◌++◌, length, take, drop, Ok}
-use Rattle.std.proofs.Math.Option.{Option, some}
+use Rattle.std.specs.Prelude.{Option, Some}
 use Rattle.felica_format.specs.declared.classes.Class.TheVariants.{Plain, Secure}
 use Rattle.felica_format.specs.Basic.{Bytes, zeros}
 use Rattle.felica_format.specs.Command.{Command, elements_of}
@@ -46,35 +46,35 @@ RefusedUntouched = (c : Command) (b : List ℕ) (r : Written) (a : List ℕ) (n 
 abbrev pub TwoRefusals : Type 0
 TwoRefusals =
     (c : Command) (b : List ℕ) (r : Written) (a : List ℕ) (n : ℕ) (code : Option ℕ) → WriterAccount c b r a → meaning r ≡ refused n code
-    → (code ≡ some c.code) × ((n ≡ 21) ⊎ (n ≡ 22))
+    → (code ≡ Some c.code) × ((n ≡ 21) ⊎ (n ≡ 22))
 
 -- "21 comes exactly when the shortest form is longer than the buffer": of a command that a frame gives, that a payload gives, and of any
 abbrev pub FrameTwentyOne : Type 0
 FrameTwentyOne =
     (c : Command) (b : List ℕ) (r : Written) (a : List ℕ) → HasFrame c → WriterAccount c b r a
-    → (meaning r ≡ refused 21 (some c.code)) ↔ (length b < length (frame_of [] c))
+    → (meaning r ≡ refused 21 (Some c.code)) ↔ (length b < length (frame_of [] c))
 
 abbrev pub PayloadTwentyOne : Type 0
 PayloadTwentyOne =
     (c : Command) (b : List ℕ) (r : Written) (a : List ℕ) → HasPayload c → WriterAccount c b r a
-    → (meaning r ≡ refused 21 (some c.code)) ↔ (length b < length (secure_of [] c))
+    → (meaning r ≡ refused 21 (Some c.code)) ↔ (length b < length (secure_of [] c))
 
 abbrev pub TwentyOneExactly : Type 0
 TwentyOneExactly =
     (c : Command) (b : List ℕ) (r : Written) (a : List ℕ) → WriterAccount c b r a
-    → (meaning r ≡ refused 21 (some c.code)) ↔ ((s : List ℕ) × (written c ≡ some s) × (length b < length s))
+    → (meaning r ≡ refused 21 (Some c.code)) ↔ ((s : List ℕ) × (written c ≡ Some s) × (length b < length s))
 
 -- "The writer says unwritable exactly when no accepted frame and no accepted secure payload gives the command." The payload may be of any code, and the
 -- three lists of a block list are part of the command as they were handed in, whatever their lengths.
 abbrev pub TwentyTwoExactly : Type 0
 TwentyTwoExactly =
     (c : Command) (b : List ℕ) (r : Written) (a : List ℕ) → WriterAccount c b r a
-    → (meaning r ≡ refused 22 (some c.code)) ↔ ((¬ HasFrame c) × (¬ HasPayload c))
+    → (meaning r ≡ refused 22 (Some c.code)) ↔ ((¬ HasFrame c) × (¬ HasPayload c))
 
 -- Whatever the parser reads after a 22, it is not what the writer was handed.
 abbrev pub UnwritableUnread : Type 0
 UnwritableUnread =
-    (c : Command) (b : List ℕ) (r : Written) (a : List ℕ) → WriterAccount c b r a → meaning r ≡ refused 22 (some c.code)
+    (c : Command) (b : List ℕ) (r : Written) (a : List ℕ) → WriterAccount c b r a → meaning r ≡ refused 22 (Some c.code)
     → (s : List ℕ) (p : Parsed) → Bytes s → (FrameParsed s p → ¬ FrameIs s p c) × ((code : ℕ) → PayloadParsed code s p → ¬ PayloadIs s p c)
 
 -- "bytes behind keep their values"

@@ -1,7 +1,7 @@
 -- The writer: what it answers, and what the lent buffer holds then.
 -- Assumes nothing.
 use Rattle.std.specs.Prelude.{ℕ, Bool, true, false, List, ◌++◌, length, drop, ltb, Result, Ok, Err}
-use Rattle.std.proofs.Math.Option.{Option, none, some}
+use Rattle.std.specs.Prelude.{Option, None, Some}
 use Rattle.felica_format.specs.Command.{Command}
 use Rattle.felica_format.specs.Writable.{written}
 use Rattle.felica_command.specs.declared.command.Refusal.{Refusal}
@@ -18,8 +18,8 @@ Written = Result ℕ Refusal
 
 abbrev pub meaning : Written → Answer
 meaning (Ok n) = wrote n
-meaning (Err (Number n)) = refused n none
-meaning (Err (OfCommand n code)) = refused n (some code)
+meaning (Err (Number n)) = refused n None
+meaning (Err (OfCommand n code)) = refused n (Some code)
 
 abbrev pub refusal : ℕ → ℕ → Written
 refusal number code = Err (OfCommand number code)
@@ -34,13 +34,13 @@ outcome answer buffer = record { answer = answer; buffer = buffer }
 
 -- "21 comes exactly when the shortest form is longer than the buffer"; "bytes behind keep their values"
 abbrev pub stored : Bool → ℕ → List ℕ → List ℕ → Outcome
-stored true code s buffer = outcome (refused 21 (some code)) buffer
+stored true code s buffer = outcome (refused 21 (Some code)) buffer
 stored false code s buffer = outcome (wrote (length s)) (s ++ drop (length s) buffer)
 
 -- "22 precedes 21", and both carry the code handed in
 abbrev pub store : ℕ → Option (List ℕ) → List ℕ → Outcome
-store code none buffer = outcome (refused 22 (some code)) buffer
-store code (some s) buffer = stored (ltb (length buffer) (length s)) code s buffer
+store code None buffer = outcome (refused 22 (Some code)) buffer
+store code (Some s) buffer = stored (ltb (length buffer) (length s)) code s buffer
 
 -- The outcome for what was handed in and the buffer before the call. Where `writable` holds, `written` is the frame `frame_of []` of a plain command and the
 -- payload `secure_of []` of a secure one, else none.

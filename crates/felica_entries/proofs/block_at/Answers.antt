@@ -1,53 +1,42 @@
 -- `block_at` meets its contract: the elements in front are walked over.
 -- Assumes nothing.
-use mathlib.Core.Path.{◌≡◌, refl, sym, ap, ◌∙◌}
-use Prim.Native.Nat.{suc, ◌-◌}
-use native.Mathlib.Omega.{arith}
-use lib.ListN.{drop}
-use Rattle.felica_format.specs.Read.{formed}
-use Rattle.felica_command.specs.Types.{element_is}
+use Rattle.std.proofs.Common.{◌≡◌, suc, ◌+◌, ◌-◌, arith, drop, sym, ap, ◌∙◌}
+use Rattle.felica_cursor.specs.Taken.{rest}
 use Rattle.felica_entries.specs.Entries.{value_of, element_behind}
-use Rattle.felica_cursor.specs.Steps.{element_taken}
 use Rattle.felica_entries.proofs.OneEntry.{no_element, one_element_read, behind_none, behind_more, behind_refused}
 use Rattle.felica_entries.proofs.block_at.Goals as goal
 
 pub returns-then-list-i : goal.returns-then-list-i
 returns-then-list-i c = let a = c.args in sym (no_element a.payload.now a.list a.i c.if-list-i.true)
 
-pub loop-left-init : goal.loop-left-init
-loop-left-init c = refl
+pub loop-element-init : goal.loop-element-init
+loop-element-init c =
+    let all : c.args.i ≡ c.args.i - 0 = omega arith in
+    ap (λ n. element_behind n (drop c.args.list.start c.args.payload.now)) all
 
 pub returns-in_default : goal.returns-in_default
 returns-in_default c =
     let a = c.args in
-    let s = a.payload.now in
-    let loop = c.loop-left in
-    let p : loop.left ≡ suc (loop.left - 1) = omega arith in
-    let stopped = behind_refused loop.left (loop.left - 1) (drop loop.at s) _ p (c.take_element-taken.ensures.0 ∙ ap (element_taken s) c.in_default.is) in
-    sym (one_element_read s a.list a.i (omega arith) ∙ ap value_of (loop.invariant ∙ stopped))
+    let left = a.i - c.loop-element._element in
+    let more : left ≡ suc (left - 1) = omega arith in
+    let stopped = behind_refused left (left - 1) _ _ more c.in_default.ensures.read in
+    sym (one_element_read a.payload.now a.list a.i (omega arith) ∙ ap value_of (c.loop-element.invariant ∙ stopped))
 
-pub loop-left-preserved : goal.loop-left-preserved
-loop-left-preserved c =
-    let s = c.args.payload.now in
-    let loop = c.loop-left in
-    let p : loop.left ≡ suc (loop.left - 1) = omega arith in
-    loop.invariant ∙
-    behind_more loop.left (loop.left - 1) (drop loop.at s) (formed c.in-Element.field-1 (element_is c.in-Element.field-0)) _ p (c.take_element-taken.ensures.0 ∙ ap (element_taken s) c.in-Element.is)
+pub loop-element-preserved : goal.loop-element-preserved
+loop-element-preserved c =
+    let more : c.args.i - c.loop-element._element ≡ suc (c.args.i - (c.loop-element._element + 1)) = omega arith in
+    c.loop-element.invariant ∙ behind_more _ _ _ _ _ more c.in-Ok.ensures.read
 
-pub returns-in_default-taken : goal.returns-in_default-taken
-returns-in_default-taken c =
+pub returns-in_default-take_element : goal.returns-in_default-take_element
+returns-in_default-take_element c =
     let a = c.args in
-    let s = a.payload.now in
-    let loop = c.loop-left in
-    let p : loop.left ≡ 0 = omega arith in
-    let here = ap (λ n. element_behind n (drop loop.at s)) p ∙ behind_none (drop loop.at s) in
-    sym (one_element_read s a.list a.i (omega arith) ∙ ap value_of (loop.invariant ∙ here ∙ c.take_element-taken-2.ensures.0 ∙ ap (element_taken s) c.in_default-taken.is))
+    let none : a.i - c.loop-element._element ≡ 0 = omega arith in
+    let here = ap (λ n. element_behind n (rest c.loop-element.cursor)) none ∙ behind_none (rest c.loop-element.cursor) in
+    sym (one_element_read a.payload.now a.list a.i (omega arith) ∙ ap value_of (c.loop-element.invariant ∙ here ∙ c.in_default-take_element.ensures.read))
 
 pub returns : goal.returns
 returns c =
     let a = c.args in
-    let s = a.payload.now in
-    let loop = c.loop-left in
-    let p : loop.left ≡ 0 = omega arith in
-    let here = ap (λ n. element_behind n (drop loop.at s)) p ∙ behind_none (drop loop.at s) in
-    sym (one_element_read s a.list a.i (omega arith) ∙ ap value_of (loop.invariant ∙ here ∙ c.take_element-taken-2.ensures.0 ∙ ap (element_taken s) c.in-Element-taken.is))
+    let none : a.i - c.loop-element._element ≡ 0 = omega arith in
+    let here = ap (λ n. element_behind n (rest c.loop-element.cursor)) none ∙ behind_none (rest c.loop-element.cursor) in
+    sym (one_element_read a.payload.now a.list a.i (omega arith) ∙ ap value_of (c.loop-element.invariant ∙ here ∙ c.in-Ok-take_element.ensures.read))

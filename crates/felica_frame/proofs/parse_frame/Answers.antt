@@ -2,7 +2,7 @@
 -- Assumes nothing.
 use mathlib.Core.Path.{◌≡◌, sym, subst}
 use mathlib.Core.List.{List}
-use mathlib.Core.Option.{none}
+use Rattle.std.specs.Prelude.{None}
 use Prim.Native.Nat.{ℕ, ◌-◌}
 use native.Mathlib.Omega.{arith}
 use lib.ListN.{length, take, drop, length-drop}
@@ -15,7 +15,7 @@ use Rattle.felica_frame.proofs.parse_frame.Goals as goal
 pub returns-then-frame-eq0 : goal.returns-then-frame-eq0
 returns-then-frame-eq0 c =
     let s = c.args.frame.now in
-    refusal_settled (drop 1 s) 1 1 none (read_frame s) _ c.refused_without_code.ensures (frame_empty s c.if-frame-eq0.true)
+    refusal_settled (drop 1 s) 1 1 None (read_frame s) _ c.refused_without_code.ensures (frame_empty s c.if-frame-eq0.true)
 
 pub overflow_cast-expected_len : goal.overflow_cast-expected_len
 overflow_cast-expected_len c = omega (arith, c.type_inv.frame 0)
@@ -23,7 +23,7 @@ overflow_cast-expected_len c = omega (arith, c.type_inv.frame 0)
 pub returns-then-expected_len-frame : goal.returns-then-expected_len-frame
 returns-then-expected_len-frame c =
     let s = c.args.frame.now in
-    refusal_settled (drop 1 s) 1 2 none (read_frame s) _ c.refused_without_code-then-expected_len-frame.ensures (frame_length s c.if-frame-eq0.false c.if-expected_len-frame.true)
+    refusal_settled (drop 1 s) 1 2 None (read_frame s) _ c.refused_without_code-then-expected_len-frame.ensures (frame_length s c.if-frame-eq0.false c.if-expected_len-frame.true)
 
 pub returns : goal.returns
 returns c =

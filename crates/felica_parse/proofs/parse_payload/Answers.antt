@@ -3,7 +3,7 @@
 use native.Mathlib.Omega.{arith}
 use Rattle.std.proofs.lemmas.Grind.{common_steps}
 use mathlib.Core.Path.{refl}
-use mathlib.Core.Option.{none}
+use Rattle.std.specs.Prelude.{None}
 use lib.ListN.{get_or}
 use Rattle.felica_format.specs.Layout.{class_of, has, plain_rows}
 use Rattle.felica_format.specs.Read.{read_payload}
@@ -14,7 +14,7 @@ use Rattle.felica_parse.proofs.parse_payload.Goals as goal
 pub returns-then-payload-eq0 : goal.returns-then-payload-eq0
 returns-then-payload-eq0 c =
     let s = c.args.payload.now in
-    refusal_settled s 1 3 none (read_payload s) _ c.refused_without_code.ensures (payload_empty s c.if-payload-eq0.true)
+    refusal_settled s 1 3 None (read_payload s) _ c.refused_without_code.ensures (payload_empty s c.if-payload-eq0.true)
 
 pub refuse_code-requires : goal.refuse_code-requires
 unfolding class_of has plain_rows

@@ -2,7 +2,7 @@
 -- Assumes nothing.
 use native.Mathlib.Omega.{arith}
 use mathlib.Core.Path.{refl}
-use mathlib.Core.Option.{some}
+use Rattle.std.specs.Prelude.{Some}
 use Rattle.felica_format.specs.Layout.{class_of, has, plain_rows, secure_rows}
 use Rattle.felica_format.specs.Read.{read_secure}
 use Rattle.felica_command.proofs.Settled.{refusal_settled}
@@ -31,4 +31,4 @@ returns-in_default c =
     let a = c.args in
     let s = a.payload.now in
     let other = not_secure a.command_code (λ e. absurd (omega (arith, e))) (λ e. absurd (omega (arith, e))) (λ e. absurd (omega (arith, e))) (λ e. absurd (omega (arith, e))) (λ e. absurd (omega (arith, e))) in
-    refusal_settled s 0 5 (some a.command_code) (read_secure a.command_code s) _ c.refused.ensures (secure_refused a.command_code s other)
+    refusal_settled s 0 5 (Some a.command_code) (read_secure a.command_code s) _ c.refused.ensures (secure_refused a.command_code s other)

@@ -1,103 +1,61 @@
 -- `fill_blocks` meets its contract: an element for each turn, its values to three buffers.
 -- Assumes nothing.
-use mathlib.Core.Path.{◌≡◌, refl, ap, ◌∙◌, subst}
-use mathlib.Core.List.{map}
-use Prim.Native.Nat.{suc, ◌+◌, ◌-◌, ◌≤◌}
-use native.Mathlib.Nat.{sub-zero}
-use native.Mathlib.Omega.{arith}
-use lib.ListN.{length, drop, length-set}
+use Rattle.std.proofs.Common.{◌≡◌, suc, ◌+◌, ◌-◌, ◌≤◌, length, drop, map, arith, refl, ap, ◌∙◌, sym}
+use Rattle.felica_format.specs.Basic.{refuse}
 use Rattle.felica_format.specs.Command.{Element}
-use Rattle.felica_format.specs.Read.{formed}
-use Rattle.felica_command.specs.Types.{element_is}
+use Rattle.felica_format.specs.Read.{read_element}
+use Rattle.felica_format.specs.Reasons.{number_of}
 use Rattle.felica_command.specs.Places.{elements_size}
 use Rattle.felica_command.proofs.Inside.{values_counted}
-use Rattle.felica_cursor.specs.Steps.{element_taken, ElementPlaced}
-use Rattle.felica_cursor.specs.declared.answers.ElementTaken.{ElementTaken}
+use Rattle.felica_cursor.specs.Steps.{formed_is}
 use Rattle.felica_cursor.proofs.Laws.{size_more}
+use Rattle.felica_cursor.proofs.Step.{stepped}
 use Rattle.felica_lists.specs.Fill.{numbers_at, places_at, modes_at}
 use Rattle.felica_lists.proofs.Laws.{store_more, store_done, none_refused, elements_next, no_elements}
 use Rattle.felica_lists.proofs.fill.fill_blocks.Goals as goal
 
 pub loop-i-init : goal.loop-i-init
-loop-i-init c = rw sub-zero (omega arith, c.requires.0, refl, refl, refl, refl, refl, refl)
+loop-i-init c =
+    let all : c.args.list.count - 0 ≡ c.args.list.count = omega arith in
+    rw all (record { payload = refl; inside = c.requires.0; numbers = refl; places = refl; modes = refl })
 
-pub shape_of-numbers-in_default : goal.shape_of-numbers-in_default
-shape_of-numbers-in_default c = c.loop-i.invariant.2
-
-pub shape_of-places-in_default : goal.shape_of-places-in_default
-shape_of-places-in_default c = c.loop-i.invariant.3
-
-pub shape_of-modes-in_default : goal.shape_of-modes-in_default
-shape_of-modes-in_default c = c.loop-i.invariant.4
-
-pub returns-in_default : goal.returns-in_default
-returns-in_default c =
-    let loop = c.loop-i in
-    let a = c.args in
-    let s = a.payload.now in
-    let stops = c.take_element-taken.ensures.0 ∙ ap (element_taken s) c.in_default.is in
-    absurd (none_refused s loop.at (a.list.count - loop.i) (a.list.count - (loop.i + 1)) _ (omega arith) loop.invariant.1 stops)
-
-pub offset_bounds-numbers-i : goal.offset_bounds-numbers-i
-offset_bounds-numbers-i c = omega arith
-
-pub bounds-numbers-i : goal.bounds-numbers-i
-bounds-numbers-i c = omega arith
-
-pub bounds-places-i : goal.bounds-places-i
-bounds-places-i c = omega arith
-
-pub bounds-modes-i : goal.bounds-modes-i
-bounds-modes-i c = omega arith
-
-pub overflow_add-i : goal.overflow_add-i
-overflow_add-i c = omega arith
-
-pub loop-i-smaller : goal.loop-i-smaller
-loop-i-smaller c = omega arith
+pub unreachable-requires : goal.unreachable-requires
+unreachable-requires c =
+    let l = c.loop-i in
+    let s = c.args.payload.now in
+    let left = c.args.list.count - l.i in
+    let stops : read_element (drop l.cursor.at s) ≡ refuse (number_of c.in_default.field-0) =
+    ap (λ x. read_element (drop l.cursor.at x)) (sym l.invariant.payload) ∙ c.in_default.ensures.read in
+    none_refused s l.cursor.at left (left - 1) _ (omega arith) l.invariant.inside stops
 
 pub loop-i-preserved : goal.loop-i-preserved
 loop-i-preserved c =
-    let loop = c.loop-i in
-    let a = c.args in
-    let s = a.payload.now in
-    let left = a.list.count - loop.i in
-    let rest = a.list.count - (loop.i + 1) in
-    let one : left ≡ suc rest = omega arith in
-    let next = c.in-Element.next.at in
-    let answer = c.take_element-taken.ensures in
-    let took = answer.0 ∙ ap (element_taken s) c.in-Element.is in
-    let placed = subst (λ (x : ElementTaken). ElementPlaced s loop.at x) c.in-Element.is answer.1 in
-    let inside : next + elements_size rest (drop next s) ≤ length s = omega (arith, loop.invariant.1, size_more s loop.at next left rest one placed) in
-    let more = elements_next s loop.at next left rest (formed c.in-Element.field-1 (element_is c.in-Element.element)) one took inside in (
-      omega arith,
-      inside,
-      simp length-set loop.invariant.2,
-      simp length-set loop.invariant.3,
-      simp length-set loop.invariant.4,
-      store_more loop.numbers loop.i (ap (map (λ (e : Element). e.number)) more) refl loop.invariant.5,
-      store_more loop.places loop.i (ap (map (λ (e : Element). e.place)) more) refl loop.invariant.6,
-      store_more loop.modes loop.i (ap (map (λ (e : Element). e.mode)) more) refl loop.invariant.7,
-    )
-
-pub shape_of-numbers : goal.shape_of-numbers
-shape_of-numbers c = c.loop-i.invariant.2
-
-pub shape_of-places : goal.shape_of-places
-shape_of-places c = c.loop-i.invariant.3
-
-pub shape_of-modes : goal.shape_of-modes
-shape_of-modes c = c.loop-i.invariant.4
+    let l = c.loop-i in
+    let s = c.args.payload.now in
+    let left = c.args.list.count - (l.i + 1) in
+    let one : c.args.list.count - l.i ≡ suc left = omega arith in
+    let next = c.in-Ok.behind.at in
+    let step = stepped s l.cursor c.in-Ok.behind c.in-Ok.taken l.invariant.payload c.in-Ok.ensures in
+    let inside : next + elements_size left (drop next s) ≤ length s =
+    omega (arith, l.invariant.inside, size_more s l.cursor.at next (c.args.list.count - l.i) left one step.at) in
+    let more = elements_next s l.cursor.at next (c.args.list.count - l.i) left (formed_is c.in-Ok.taken) one step.took inside in
+    record {
+      payload = step.payload;
+      inside = inside;
+      numbers = store_more l.numbers l.i (ap (map (λ (e : Element). e.number)) more) refl l.invariant.numbers;
+      places = store_more l.places l.i (ap (map (λ (e : Element). e.place)) more) refl l.invariant.places;
+      modes = store_more l.modes l.i (ap (map (λ (e : Element). e.mode)) more) refl l.invariant.modes;
+    }
 
 pub returns : goal.returns
 returns c =
-    let loop = c.loop-i in
+    let l = c.loop-i in
     let a = c.args in
     let s = a.payload.now in
-    let left : a.list.count - loop.i ≡ 0 = omega arith in
-    let none = no_elements s loop.at (a.list.count - loop.i) left in
+    let left : a.list.count - l.i ≡ 0 = omega arith in
+    let none = no_elements s l.cursor.at (a.list.count - l.i) left in
     let inside = c.requires.0 in (
-      store_done loop.numbers loop.i a.numbers.now (numbers_at s a.list) (ap (map (λ (e : Element). e.number)) none) (rw (values_counted s a.list (λ (e : Element). e.number) inside) (omega arith)) loop.invariant.5,
-      store_done loop.places loop.i a.places.now (places_at s a.list) (ap (map (λ (e : Element). e.place)) none) (rw (values_counted s a.list (λ (e : Element). e.place) inside) (omega arith)) loop.invariant.6,
-      store_done loop.modes loop.i a.modes.now (modes_at s a.list) (ap (map (λ (e : Element). e.mode)) none) (rw (values_counted s a.list (λ (e : Element). e.mode) inside) (omega arith)) loop.invariant.7,
+      store_done l.numbers l.i a.numbers.now (numbers_at s a.list) (ap (map (λ (e : Element). e.number)) none) (rw (values_counted s a.list (λ (e : Element). e.number) inside) (omega arith)) l.invariant.numbers,
+      store_done l.places l.i a.places.now (places_at s a.list) (ap (map (λ (e : Element). e.place)) none) (rw (values_counted s a.list (λ (e : Element). e.place) inside) (omega arith)) l.invariant.places,
+      store_done l.modes l.i a.modes.now (modes_at s a.list) (ap (map (λ (e : Element). e.mode)) none) (rw (values_counted s a.list (λ (e : Element). e.mode) inside) (omega arith)) l.invariant.modes,
     )

@@ -1,15 +1,10 @@
--- `fill_codes` meets its contract: a code for each turn.
+-- A code for each turn: storing the rest from here gives what storing all from the start gives.
 -- Assumes nothing.
-use mathlib.Core.Path.{◌≡◌}
-use Prim.Native.Nat.{◌+◌, ◌*◌, ◌-◌, ◌≤◌}
-use lib.ListN.{length, drop}
-use lib.Seq.{sets}
+use Rattle.std.proofs.Common.{◌≡◌, ◌+◌, ◌*◌, ◌-◌, drop}
+use Rattle.std.proofs.lemmas.List.Edits.{sets}
 use Rattle.felica_format.specs.Read.{words_of}
 use Rattle.felica_lists.proofs.fill.fill_codes.Given as goal
 
 abbrev pub invariant-loop-i : goal.invariant-loop-i
-invariant-loop-i l = (l.at ≡ l.initial.at + 2 * l.i) × (l.i ≤ l.count) × (length l.out ≡ length l.initial.out)
-    × (sets l.out l.i (words_of (l.count - l.i) (drop l.at l.payload)) ≡ sets l.initial.out 0 (words_of l.count (drop l.initial.at l.payload)))
-
-abbrev pub decreases-loop-i : goal.decreases-loop-i
-decreases-loop-i l = l.count - l.i
+invariant-loop-i l =
+    sets l.out l.i (words_of (l.list.count - l.i) (drop (l.list.start + 2 * l.i) l.payload)) ≡ sets l.initial.out 0 (words_of l.list.count (drop l.list.start l.payload))

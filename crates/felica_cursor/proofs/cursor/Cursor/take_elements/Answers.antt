@@ -1,67 +1,57 @@
 -- `Cursor::take_elements` meets its contract: those taken stand in front of what the rest gives, and the place tells how many of them were long.
 -- Assumes nothing.
-use Prim.Native.Nat.{◌+◌, ◌-◌, suc}
-use native.Mathlib.Omega.{arith}
-use mathlib.Core.Path.{◌≡◌, refl, sym, ap, ◌∙◌, subst}
-use mathlib.Core.List.{[], ◌∷◌, ◌++◌}
-use lib.ListN.{length, drop, length-append}
+use Rattle.std.proofs.Common.{drop, get_or, ◌≡◌, suc, ◌+◌, ◌-◌, arith, refl, sym, ap, ◌∙◌}
+use Rattle.std.proofs.lemmas.Result.{err_from_is_err_and}
 use Rattle.felica_format.specs.Basic.{refuse}
-use Rattle.felica_format.specs.Command.{long_count}
-use Rattle.felica_format.specs.Read.{formed, read_element}
-use Rattle.felica_format.proofs.Elements.{long_few}
-use Rattle.felica_command.specs.Types.{element_is}
-use Rattle.felica_command.proofs.Inside.{each_leaves}
-use Rattle.felica_cursor.specs.Steps.{element_taken, ElementPlaced}
-use Rattle.felica_cursor.specs.declared.answers.ElementTaken.{ElementTaken}
-use Rattle.felica_cursor.proofs.Laws.{size_more, size_done}
-use Rattle.felica_cursor.proofs.Blocks.{before_none, each_more, each_refused, each_done, long_more, form_size}
+use Rattle.felica_format.specs.Read.{read_element}
+use Rattle.felica_format.specs.Reasons.{number_of}
+use Rattle.felica_command.specs.Places.{element_size}
+use Rattle.felica_cursor.specs.Steps.{formed_is}
+use Rattle.felica_cursor.specs.declared.cursor.Cursor.{Cursor}
+use Rattle.felica_cursor.proofs.Blocks.{each_refused, form_size}
+use Rattle.felica_cursor.proofs.Few.{walked_none, walked_more, walked_done, done_takes, cursor_in, element_in}
 use Rattle.felica_cursor.proofs.cursor.Cursor.take_elements.Goals as goal
 
-pub loop-left-init : goal.loop-left-init
-loop-left-init c = (([], before_none _, omega arith, omega arith), refl)
+pub loop-taken-init : goal.loop-taken-init
+loop-taken-init c = (refl, walked_none _ _ _ _ (omega arith))
 
-pub returns-in_default : goal.returns-in_default
-returns-in_default c =
-    let l = c.loop-left in
-    let s = c.args.payload.now in
-    let refused : read_element (drop l.at s) ≡ refuse c.ground.result = simp (c.take_element-taken.ensures.0, c.in_default.is, c.ground.ensures) in
-    let more : l.left ≡ suc (l.left - 1) = omega arith in
-    (l.invariant.0.1 ∙ each_refused l.invariant.0.0 l.left (l.left - 1) c.ground.result (drop l.at s) more refused, tt)
+pub returns-in_err-behind : goal.returns-in_err-behind
+returns-in_err-behind c =
+    let l = c.loop-taken in
+    let (same, (done, read, size, many, reach)) = l.invariant in
+    let why = number_of c.in_err-behind.field-0.0 in
+    let left = c.args.count - l._taken in
+    let more : left ≡ suc (left - 1) = omega arith in
+    let refused : read_element (drop l.cursor.at c.args.self.payload.now) ≡ refuse why =
+    ap (λ p. read_element (drop l.cursor.at p.now)) (sym same) ∙ c.in_err-behind.ensures.read in
+    let p = err_from_is_err_and c.from_residual.result c.from_residual.ensures.1 in
+    rw (p.1, p.2) (record { read = read ∙ each_refused done left (left - 1) why _ more refused; placed = tt })
 
-pub loop-left-preserved : goal.loop-left-preserved
-loop-left-preserved c =
-    let l = c.loop-left in
-    let s = c.args.payload.now in
-    let (done, read, place, count) = l.invariant.0 in
-    let e = formed c.in-Element.field-1 (element_is c.in-Element.field-0) in
-    let next = c.in-Element.next.at in
-    let more : l.left ≡ suc (l.left - 1) = omega arith in
-    let took = c.take_element-taken.ensures.0 ∙ ap (element_taken s) c.in-Element.is in
-    let placed = subst (λ (x : ElementTaken). ElementPlaced s l.at x) c.in-Element.is c.take_element-taken.ensures.1 in
-    let size = form_size s l.at e _ took in
-    let long = long_more done e in
-    let longer : length (done ++ (e ∷ [])) ≡ length done + 1 = length-append done (e ∷ []) in (
-      (
-        done ++ (e ∷ []),
-        read ∙ each_more done e l.left (l.left - 1) (drop l.at s) (drop next s) more took,
-        omega (arith, placed, size, long, place, longer),
-        omega (arith, count, more, longer),
-      ),
-      l.invariant.1 ∙ size_more s l.at next l.left (l.left - 1) more placed,
+pub loop-taken-preserved : goal.loop-taken-preserved
+loop-taken-preserved c =
+    let l = c.loop-taken in
+    let same = l.invariant.0 in
+    let s = c.args.self.payload.now in
+    let e = formed_is c.in_ok-behind.field-0-0 in
+    let behind = c.in_ok-behind.behind in
+    let step = c.in_ok-behind.ensures in
+    let took = element_in c.args.self l.cursor behind e _ same step.placed step.read in
+    let size = form_size s l.cursor.at e _ took in
+    let head : get_or l.cursor.payload.now l.cursor.at 0 ≡ get_or s l.cursor.at 0 = ap (λ p. get_or p.now l.cursor.at 0) same in
+    let next : behind.at ≡ l.cursor.at + element_size (get_or s l.cursor.at 0) = ap (λ (x : Cursor). x.at) step.placed ∙ rw head refl in
+    let more : c.args.count - l._taken ≡ suc (c.args.count - (l._taken + 1)) = omega arith in (
+      ap (λ (x : Cursor). x.payload) step.placed ∙ same,
+      walked_more s c.args.self.at c.args.count l.cursor.at _ _ more e behind.at l.invariant.1 took next (omega (arith, next, size)),
     )
 
-pub count_long-long-requires : goal.count_long-long-requires
-count_long-long-requires c =
-    let (done, read, place, count) = c.loop-left.invariant.0 in
-    let few = long_few done in
-    (omega (arith, few, place, count), omega (arith, few, place, count))
+pub between-requires : goal.between-requires
+between-requires c =
+    let none : c.args.count - c.loop-taken._taken ≡ 0 = omega arith in
+    let done = walked_done _ _ _ _ _ none c.loop-taken.invariant.1 in
+    (omega (arith, done.2, done.3), omega (arith, done.2, done.3))
 
 pub returns : goal.returns
 returns c =
-    let l = c.loop-left in
-    let s = c.args.payload.now in
-    let (done, read, place, count) = l.invariant.0 in
-    let none : l.left ≡ 0 = omega arith in
-    let all = read ∙ each_done done l.left (drop l.at s) none in
-    let long : c.count_long-long.result ≡ long_count done = omega (arith, c.count_long-long.ensures, place, count, none) in
-    (rw all refl, (refl, rw all (each_leaves _ _ _ _ all).1, sym (l.invariant.1 ∙ size_done s l.at l.left none), rw all long))
+    let none : c.args.count - c.loop-taken._taken ≡ 0 = omega arith in
+    let same : c.loop-taken.cursor ≡ record c.args.self { at = c.loop-taken.cursor.at } = cursor_in c.args.self c.loop-taken.cursor c.loop-taken.invariant.0 in
+    rw same (done_takes c.args.self c.args.count _ _ c.between.ensures (walked_done _ _ _ _ _ none c.loop-taken.invariant.1))

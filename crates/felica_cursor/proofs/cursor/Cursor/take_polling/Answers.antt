@@ -1,32 +1,42 @@
 -- `Cursor::take_polling` meets its contract.
 -- Assumes nothing.
-use mathlib.Core.Path.{ap, ◌∙◌}
-use native.Mathlib.Omega.{arith}
-use lib.Dec.{lit<}
-use lib.ListN.{drop}
+use Rattle.std.proofs.Common.{◌≡◌, ◌+◌, true, false, not, get_or, refl, sym, ap, ◌∙◌}
+use Rattle.std.proofs.lemmas.Result.{err_from_is_err_and}
+use Rattle.std.proofs.Math.Dec.{ltb}
+use Rattle.std.proofs.lemmas.List.{get_or-drop}
+use Rattle.felica_format.specs.Basic.{refuse_if}
 use Rattle.felica_format.specs.Layout.{polling}
-use Rattle.felica_cursor.specs.Answers.{as_step, moved_with}
-use Rattle.felica_cursor.specs.declared.answers.Moved.{Moved}
-use Rattle.felica_cursor.proofs.Laws.{ending_refused, ending_taken, measured_fits}
+use Rattle.felica_format.specs.Read.{read_values}
+use Rattle.felica_cursor.proofs.Laws.{ending_refused, ending_taken, ltb_not_leb, polling_values}
 use Rattle.felica_cursor.proofs.cursor.Cursor.take_polling.Goals as goal
 
-pub returns-in_default : goal.returns-in_default
-returns-in_default c =
-    let a = c.args in
-    let s = a.payload.now in
-    let size = c.measure-step.ensures.0 ∙ ap (λ (x : Moved). as_step s (moved_with 4 x)) c.in_default.is in
-    (simp (ending_refused polling (drop a.self.at s) _ size, c.ground.ensures, c.in_default.is), tt)
+pub returns-in_err-measure : goal.returns-in_err-measure
+returns-in_err-measure c =
+    let p = err_from_is_err_and c.from_residual.result c.from_residual.ensures.1 in
+    rw (p.1, p.2) (record { read = ending_refused polling _ _ c.in_err-measure.ensures.read; placed = tt })
 
-pub polling_at-requires : goal.polling_at-requires
-polling_at-requires c =
-    let a = c.args in
-    let s = a.payload.now in
-    let size = c.measure-step.ensures.0 ∙ ap (λ (x : Moved). as_step s (moved_with 4 x)) c.in-On.is in
-    omega (arith, measured_fits s a.self.at 4 size (lit< tt))
+pub returns-then-not-is_polling_request_code : goal.returns-then-not-is_polling_request_code
+unfolding read_values refuse_if
+returns-then-not-is_polling_request_code c =
+    let b = get_or c.args.self.payload.now (c.args.self.at + 2) 0 in
+    let request : ltb 2 b ≡ true = ltb_not_leb b 2 ∙ ap not (sym c.is_polling_request_code.ensures ∙ c.if-not-is_polling_request_code.true) in
+    record { read = simp (ending_taken polling _ _ _ c.in_ok-measure.ensures.read, get_or-drop, request); placed = tt }
+
+pub returns-then-not-is_polling_time_slot : goal.returns-then-not-is_polling_time_slot
+unfolding read_values refuse_if
+returns-then-not-is_polling_time_slot c =
+    let b = get_or c.args.self.payload.now (c.args.self.at + 2) 0 in
+    let request : ltb 2 b ≡ false = ltb_not_leb b 2 ∙ ap not (sym c.is_polling_request_code.ensures ∙ c.if-not-is_polling_request_code.false) in
+    record {
+      read = simp (ending_taken polling _ _ _ c.in_ok-measure.ensures.read, get_or-drop, request, sym c.is_polling_time_slot.ensures, c.if-not-is_polling_time_slot.true);
+      placed = tt;
+    }
 
 pub returns : goal.returns
 returns c =
-    let a = c.args in
-    let s = a.payload.now in
-    let size = c.measure-step.ensures.0 ∙ ap (λ (x : Moved). as_step s (moved_with 4 x)) c.in-On.is in
-    (ending_taken polling (drop a.self.at s) _ _ size ∙ c.polling_at.ensures.0, c.polling_at.ensures.1)
+    let s = c.args.self.payload.now in
+    let at = c.args.self.at in
+    let request : ltb 2 (get_or s (at + 2) 0) ≡ false =
+    ltb_not_leb (get_or s (at + 2) 0) 2 ∙ ap not (sym c.is_polling_request_code.ensures ∙ c.if-not-is_polling_request_code.false) in
+    let slots = sym c.is_polling_time_slot.ensures ∙ c.if-not-is_polling_time_slot.false in
+    record { read = ending_taken polling _ _ _ c.in_ok-measure.ensures.read ∙ rw c.word_of.ensures (polling_values s at request slots); placed = refl }

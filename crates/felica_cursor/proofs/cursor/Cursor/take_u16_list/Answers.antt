@@ -1,23 +1,24 @@
 -- `Cursor::take_u16_list` meets its contract.
 -- Assumes nothing.
-use mathlib.Core.Path.{subst}
-use Prim.Native.Nat.{ℕ, ◌+◌}
+use Rattle.std.proofs.Common.{refl, subst}
+use Rattle.std.proofs.lemmas.Result.{err_from_is_err_and}
 use Rattle.felica_format.specs.Basic.{bind}
-use Rattle.felica_format.specs.Read.{read_codes}
-use Rattle.felica_cursor.specs.Answers.{MovesTo, byte_taken}
-use Rattle.felica_cursor.specs.Steps.{CodesPlaced}
-use Rattle.felica_cursor.specs.declared.answers.ByteTaken.{ByteTaken}
+use Rattle.felica_format.specs.Read.{read_words, read_codes}
+use Rattle.felica_command.specs.Meaning.{codes_at}
+use Rattle.felica_cursor.specs.Taken.{rest, Takes}
+use Rattle.felica_cursor.specs.Steps.{CodesFrom}
+use Rattle.felica_cursor.specs.declared.cursor.Cursor.{Cursor}
 use Rattle.felica_cursor.proofs.cursor.Cursor.take_u16_list.Goals as goal
 
-pub returns-in_default : goal.returns-in_default
+pub returns-in_err-count : goal.returns-in_err-count
 unfolding read_codes bind
-returns-in_default c = (simp (c.take_count-counted.ensures.0, c.in_default.is, c.ground.ensures), tt)
+returns-in_err-count c =
+    let p = err_from_is_err_and c.from_residual.result c.from_residual.ensures.1 in
+    rw (p.1, p.2) (record { read = rw c.in_err-count.ensures.read refl; placed = tt })
 
 pub returns : goal.returns
 unfolding read_codes bind
 returns c =
-    let count = c.take_count-counted in
-    let next = subst (λ (x : ByteTaken). MovesTo (c.args.self.at + 1) (byte_taken x)) c.in-Byte.is count.ensures.1 in (
-      simp (count.ensures.0, c.in-Byte.is, c.take_u16s.ensures.0),
-      subst (λ (n : ℕ). CodesPlaced n c.take_u16s.result) next c.take_u16s.ensures.1,
-    )
+    let first = c.in_ok-count.ensures in
+    let list = subst (λ (b : Cursor). Takes (codes_at b.payload.now) (read_words c.in_ok-count.count (rest b)) (CodesFrom b) c.take_u16s.result) first.placed c.take_u16s.ensures in
+    record { read = rw (first.read, first.placed) list.read; placed = list.placed }
