@@ -2,7 +2,7 @@
 -- Assumes nothing.
 use Rattle.std.specs.Prelude.{ℕ, ◌≡◌, List, [], ◌∷◌, take, Result, Ok, Err}
 use Rattle.felica_command.specs.Places.{Account}
-use Rattle.felica_command.specs.declared.command.Parsed.{Parsed}
+use Rattle.felica_command.specs.Meaning.{ParserResult}
 use Rattle.felica_put.specs.Put.{Buffer, put}
 use Rattle.felica_calls.specs.Fault.{fault_text}
 use Rattle.felica_calls.specs.Write.{behind_code}
@@ -19,7 +19,7 @@ use Rattle.felica.specs.Lists.{list_answer}
 -- of a call to parse, the line of the one result that the definitions allow; of one that asks how many elements were long, the line of what they count; the fields of a call to write stand in the line
 abbrev pub AnswerTo : List ℕ → Result Call Fault → List ℕ → Buffer → Buffer → Type 0
 AnswerTo line (Ok (Parse source n)) bytes before after =
-    (p : Parsed) × Account (payload_in source (take n bytes)) (body_at source) (reading_of source (take n bytes)) p
+    (p : ParserResult) × Account (payload_in source (take n bytes)) (body_at source) (reading_of source (take n bytes)) p
     × (after ≡ put before (line_of (payload_in source (take n bytes)) p))
 AnswerTo line (Ok (Long source n)) bytes before after = after ≡ put before (long_line (reading_of source (take n bytes)))
 AnswerTo line (Ok (ListCall source n z)) bytes before after = after ≡ put before (list_answer (reading_of source (take n bytes)) z)

@@ -1,7 +1,7 @@
 // Answers to calls of the parser, and to those that ask how many elements were long.
 ghost use Rattle.std.specs.Prelude.{◌≡◌};
 ghost use Rattle.felica_command.specs.Places.{Account};
-ghost use Rattle.felica_command.specs.declared.command.Parsed.{Parsed};
+ghost use Rattle.felica_command.specs.Meaning.{ParserResult};
 ghost use Rattle.felica_put.specs.Output.{Puts};
 ghost use Rattle.felica_answers.specs.Answer.{line_of};
 ghost use Rattle.felica_answers.specs.Long.{long_line};
@@ -10,7 +10,7 @@ ghost use Rattle.felica.specs.Source.{reading_of, payload_in, body_at};
 use felica_answers::answer::put_answer;
 use felica_answers::long::put_long;
 use felica_calls::source::Source;
-use felica_command::command::Parsed;
+use felica_command::command::{Parsed, Refusal};
 use felica_frame::{parse_frame, payload_of};
 use felica_parse::parse_payload;
 use felica_put::Output;
@@ -18,7 +18,7 @@ use felica_secure::parse_secure_payload;
 
 // The line of the one result that the definitions allow.
 pub(crate) fn answer_parse(source: Source, bytes: &[u8], out: &mut Output<u8>)
-    ensures { (p : Parsed) × Account (payload_in source bytes.now) (body_at source) (reading_of source bytes.now) p × Puts out.old out.new (line_of (payload_in source bytes.now) p) }
+    ensures { (p : ParserResult) × Account (payload_in source bytes.now) (body_at source) (reading_of source bytes.now) p × Puts out.old out.new (line_of (payload_in source bytes.now) p) }
 {
     put_answer(out, payload_in(source, bytes), parse(source, bytes));
 }
@@ -30,7 +30,7 @@ pub(crate) fn answer_long(source: Source, bytes: &[u8], out: &mut Output<u8>)
     put_long(out, parse(source, bytes));
 }
 
-fn parse(source: Source, bytes: &[u8]) -> Parsed
+fn parse(source: Source, bytes: &[u8]) -> Result<Parsed, Refusal>
     ensures { Account (payload_in source bytes.now) (body_at source) (reading_of source bytes.now) result }
 {
     match source {

@@ -2,7 +2,8 @@
 -- Assumes nothing.
 use Rattle.std.specs.Prelude.{ℕ, Bool, true, false, List, [], ◌++◌}
 use Rattle.felica_command.specs.Types.{property_index, node_property_byte, encryption_byte, packet_byte}
-use Rattle.felica_command.specs.Meaning.{fields_of}
+use Rattle.std.specs.Prelude.{Ok, Err}
+use Rattle.felica_command.specs.Meaning.{fields_of, ParserResult}
 use Rattle.felica_command.specs.declared.command.FelicaStandardCommand.{FelicaStandardCommand}
 use Rattle.felica_command.specs.declared.command.FelicaStandardCommand.TheVariants.{Polling, RequestService, RequestResponse, ReadWithoutEncryption}
 use Rattle.felica_command.specs.declared.command.FelicaStandardCommand.TheVariants.{WriteWithoutEncryption, SearchServiceCode, RequestSystemCode}
@@ -15,9 +16,6 @@ use Rattle.felica_command.specs.declared.command.FelicaStandardCommand.TheVarian
 use Rattle.felica_command.specs.declared.command.FelicaStandardCommand.TheVariants.{RequestSpecificationVersion, ResetMode, Authentication1V2}
 use Rattle.felica_command.specs.declared.command.FelicaStandardCommand.TheVariants.{Authentication2V2, GetContainerId, RegisterIssueId, RegisterArea}
 use Rattle.felica_command.specs.declared.command.FelicaStandardCommand.TheVariants.{RegisterService, ChangeSystemBlock}
-use Rattle.felica_command.specs.declared.command.Answer.{Answer}
-use Rattle.felica_command.specs.declared.command.Answer.TheVariants.{Command as AnswerCommand, Refused as AnswerRefused}
-use Rattle.felica_command.specs.declared.command.Parsed.{Parsed}
 use Rattle.felica_text.specs.Text.{text, byte_text}
 use Rattle.felica_fields.specs.Field.{byte_field, word_field, idm_field, first_field, second_field, blocks_field, data_field, package_field}
 use Rattle.felica_fields.specs.Field.{challenge8, challenge16, issue_fields}
@@ -84,10 +82,7 @@ row_text idm r = idm_text r.idm idm ++ (r.codes ++ (r.blocks ++ (r.fixed ++ r.is
 abbrev pub command_text : List ℕ → List ℕ → List ℕ → FelicaStandardCommand → List ℕ
 command_text s idm ch kind = text "OK " ++ (byte_text (fields_of kind).code ++ row_text idm (row_of s ch kind))
 
-abbrev pub answer_text : List ℕ → List ℕ → List ℕ → Answer → List ℕ
-answer_text s idm ch (AnswerCommand kind) = command_text s idm ch kind
-answer_text s idm ch (AnswerRefused refusal) = refusal_text refusal
-
 -- the line of a result for the payload s
-abbrev pub line_of : List ℕ → Parsed → List ℕ
-line_of s r = answer_text s r.idm r.challenge r.answer
+abbrev pub line_of : List ℕ → ParserResult → List ℕ
+line_of s (Ok p) = command_text s p.idm p.challenge p.command
+line_of s (Err why) = refusal_text why

@@ -1,10 +1,9 @@
 -- The line that answers a call of the list reader: `OK cc first=... second=... numbers=... places=... modes=...`, or the refusal.
 -- Assumes nothing.
-use Rattle.std.specs.Prelude.{ℕ, List, ◌++◌, take}
+use Rattle.std.specs.Prelude.{ℕ, List, ◌++◌, take, Ok, Err}
 use Rattle.felica_format.specs.Read.{Answer as Reading, gives, refused}
-use Rattle.felica_command.specs.Meaning.{Fields, fields_of}
-use Rattle.felica_command.specs.declared.command.Answer.{Answer}
-use Rattle.felica_command.specs.declared.command.Answer.TheVariants.{Command as AnswerCommand, Refused as AnswerRefused}
+use Rattle.felica_command.specs.Meaning.{Fields, fields_of, ParserResult}
+use Rattle.felica_lists.specs.Lists.{Buffers}
 use Rattle.felica_text.specs.Text.{text, byte_text}
 use Rattle.felica_fields.specs.Field.{words_field, nibbles_field}
 use Rattle.felica_fields.specs.Refused.{refused_text, refusal_text}
@@ -21,11 +20,11 @@ list_line (gives c long) = lists_text c.code c.first c.second c.numbers c.places
 list_line (refused n code) = refused_text n code
 
 -- the same for a result, whose lists stand at the front of the lent buffers
-abbrev pub fronts_text : Fields → List ℕ → List ℕ → List ℕ → List ℕ → List ℕ → List ℕ
-fronts_text f first second numbers places modes =
-    lists_text f.code (take f.first.count first) (take f.second.count second) (take f.elements.count numbers)
-    (take f.elements.count places) (take f.elements.count modes)
+abbrev pub fronts_text : Fields → Buffers → List ℕ
+fronts_text f b =
+    lists_text f.code (take f.first.count b.first) (take f.second.count b.second) (take f.elements.count b.numbers)
+    (take f.elements.count b.places) (take f.elements.count b.modes)
 
-unfoldable pub listed_text : Answer → List ℕ → List ℕ → List ℕ → List ℕ → List ℕ → List ℕ
-listed_text (AnswerCommand kind) first second numbers places modes = fronts_text (fields_of kind) first second numbers places modes
-listed_text (AnswerRefused why) first second numbers places modes = refusal_text why
+unfoldable pub listed_text : ParserResult → Buffers → List ℕ
+listed_text (Ok p) b = fronts_text (fields_of p.command) b
+listed_text (Err why) b = refusal_text why

@@ -4,33 +4,25 @@ ghost use Rattle.felica_put.specs.Output.{Puts};
 ghost use Rattle.felica_answers.specs.Answer.{command_text, line_of};
 
 use crate::fields::put_fields;
-use felica_command::command::{Answer, FelicaStandardCommand as Command, Parsed};
+use felica_command::command::{Parsed, Refusal};
 use felica_fields::refusal::put_refusal;
 use felica_put::Output;
 use felica_text::put::put_hex_byte;
 
 // The payload is the one that the places in `parsed` count from: of a frame, the bytes behind its length byte.
-pub fn put_answer(out: &mut Output<u8>, payload: &[u8], parsed: Parsed)
+pub fn put_answer(out: &mut Output<u8>, payload: &[u8], parsed: Result<Parsed, Refusal>)
     ensures { Puts out.old out.new (line_of payload.now parsed) }
 {
-    match parsed.answer {
-        Answer::Command(command) => {
-            put_command(out, payload, command, parsed.idm, parsed.challenge)
-        }
-        Answer::Refused(refusal) => put_refusal(out, refusal),
+    match parsed {
+        Ok(parsed) => put_command(out, payload, parsed),
+        Err(refusal) => put_refusal(out, refusal),
     }
 }
 
-fn put_command(
-    out: &mut Output<u8>,
-    payload: &[u8],
-    command: Command,
-    idm: [u8; 8],
-    challenge: [u8; 16],
-)
-    ensures { Puts out.old out.new (command_text payload.now idm challenge command) }
+fn put_command(out: &mut Output<u8>, payload: &[u8], parsed: Parsed)
+    ensures { Puts out.old out.new (command_text payload.now parsed.idm parsed.challenge parsed.command) }
 {
     out.put_all(b"OK ");
-    put_hex_byte(out, command.command_code());
-    put_fields(out, payload, command, idm, challenge);
+    put_hex_byte(out, parsed.command.command_code());
+    put_fields(out, payload, parsed.command, parsed.idm, parsed.challenge);
 }

@@ -2,40 +2,32 @@
 -- Assumes nothing.
 use Rattle.std.proofs.Common.{ℕ, ◌≡◌, refl, sym, ap, ◌∙◌, List, Ok, Err}
 use Rattle.felica_format.specs.Read.{Answer as Reading}
-use Rattle.felica_command.specs.Meaning.{fields_of, answer_is, meaning}
-use Rattle.felica_command.specs.Places.{Places, answer_places, places_of, read_places}
+use Rattle.felica_command.specs.Meaning.{fields_of, ParserResult, meaning}
+use Rattle.felica_command.specs.Places.{Places, places_of, read_places}
 use Rattle.felica_command.specs.declared.command.FelicaStandardCommand.{FelicaStandardCommand}
 use Rattle.felica_command.specs.declared.command.Refusal.{Refusal}
-use Rattle.felica_command.specs.declared.command.Refusal.TheVariants.{Number, OfCommand}
-use Rattle.felica_command.specs.declared.command.Answer.{Answer}
-use Rattle.felica_command.specs.declared.command.Answer.TheVariants.{Command as AnswerCommand, Refused as AnswerRefused}
-use Rattle.felica_command.specs.declared.command.Parsed.{Parsed}
 use Rattle.felica_lists.specs.Lists.{Buffers, Outcome, outcome}
 use Rattle.felica_write.specs.Writing as writer
 use Rattle.felica_write.specs.Writing.{Written}
 use Rattle.felica_c.specs.declared.answer.FelicaWritten.{FelicaWritten}
 use Rattle.felica_c.specs.Boundary.{Lent, lent, parts_of, Told, told, answer, telling, written_answer}
-use Rattle.felica_c.specs.Fields.{Put, put_fields, tell_answer, tell, unwritten_by}
+use Rattle.felica_c.specs.Fields.{Put, put_fields, tell, unwritten_by}
 
 -- what an arm of `put_fields` puts is what its kind has
 pub arm : (kind k : FelicaStandardCommand) (p : Put) → kind ≡ k → p ≡ put_fields (fields_of k) → p ≡ put_fields (fields_of kind)
 arm kind k p is same = same ∙ ap (λ (x : FelicaStandardCommand). put_fields (fields_of x)) (sym is)
 
 -- what is told of a result is told of what the bytes give
-answer_tells : (s idm challenge : List ℕ) (long at : ℕ) (a : Answer) (m : Lent) → answer_places a ≡ read_places at s (answer_is s idm challenge long a)
-    → tell_answer idm challenge long a m ≡ telling at s (answer_is s idm challenge long a) m
-answer_tells s idm challenge long at (AnswerCommand kind) m placed =
-    ap (λ (q : Places). told (answer 0 (put_fields (fields_of kind)).code long) (lent idm challenge (put_fields (fields_of kind)).fields (parts_of q))) placed
-answer_tells s idm challenge long at (AnswerRefused (Number n)) m placed = refl
-answer_tells s idm challenge long at (AnswerRefused (OfCommand n code)) m placed = refl
-
-pub result_tells : (s : List ℕ) (at : ℕ) (reading : Reading) (p : Parsed) (m : Lent) → meaning s p ≡ reading → places_of p ≡ read_places at s reading
-    → tell p m ≡ telling at s reading m
-result_tells s at reading p m means placed =
-    answer_tells s p.idm p.challenge p.long at p.answer m (placed ∙ ap (read_places at s) (sym means)) ∙ ap (λ (x : Reading). telling at s x m) means
+pub result_tells : (s : List ℕ) (at : ℕ) (reading : Reading) (r : ParserResult) (m : Lent) → meaning s r ≡ reading → places_of r ≡ read_places at s reading
+    → tell r m ≡ telling at s reading m
+result_tells s at reading (Ok p) m means placed =
+    let f = put_fields (fields_of p.command) in
+    ap (λ (q : Places). told (answer 0 f.code p.long) (lent p.idm p.challenge f.fields (parts_of q))) (placed ∙ ap (read_places at s) (sym means))
+    ∙ ap (λ (x : Reading). telling at s x m) means
+result_tells s at reading (Err why) m means placed = ap (λ (x : Reading). telling at s x m) means
 
 -- the same of the list reader's result p, with its buffers b
-pub list_tells : (s : List ℕ) (at : ℕ) (o : Outcome) (p : Parsed) (b : Buffers) (m : Lent) (t : Told) → outcome (meaning s p) b ≡ o
+pub list_tells : (s : List ℕ) (at : ℕ) (o : Outcome) (p : ParserResult) (b : Buffers) (m : Lent) (t : Told) → outcome (meaning s p) b ≡ o
     → places_of p ≡ read_places at s (meaning s p) → t ≡ tell p m → (t ≡ telling at s o.answer m) × (b ≡ o.buffers)
 list_tells s at o p b m t is placed tells =
     (tells ∙ result_tells s at (meaning s p) p m refl placed ∙ ap (λ (x : Outcome). telling at s x.answer m) is, ap (λ (x : Outcome). x.buffers) is)
@@ -45,8 +37,7 @@ length_told : (w : Written) (n : ℕ) → w ≡ Ok n → record { refusal = 0; l
 length_told w n is = ap (λ (x : Written). written_answer (writer.meaning x)) (sym is)
 
 refusal_told : (why : Refusal) → unwritten_by why ≡ written_answer (writer.meaning (Err why))
-refusal_told (Number n) = refl
-refusal_told (OfCommand n code) = refl
+refusal_told why = refl
 
 unwritten_told : (w : Written) (why : Refusal) (r : FelicaWritten) → w ≡ Err why → r ≡ unwritten_by why → r ≡ written_answer (writer.meaning w)
 unwritten_told w why r is same = same ∙ refusal_told why ∙ ap (λ (x : Written). written_answer (writer.meaning x)) (sym is)

@@ -8,6 +8,7 @@ ghost use Rattle.felica_c.specs.Boundary.{lent, told, telling};
 
 use felica_c::answer::FelicaAnswer;
 use felica_c::tell::tell;
+use felica_lists::buffers::ListBuffers;
 use felica_lists::list_payload;
 
 #[unsafe(no_mangle)]
@@ -25,6 +26,13 @@ pub extern "C" fn felica_list_payload(
 ) -> FelicaAnswer
     ensures { (told result (lent idm.new challenge.new fields.new parts.new) ≡ telling 1 payload.now (listed (read_payload payload.now) (buffers first.old second.old numbers.old places.old modes.old)).answer (lent idm.old challenge.old fields.old parts.old)) × (buffers first.new second.new numbers.new places.new modes.new ≡ (listed (read_payload payload.now) (buffers first.old second.old numbers.old places.old modes.old)).buffers) }
 {
-    let parsed = list_payload(payload, first, second, numbers, places, modes);
+    let mut buffers = ListBuffers {
+        first,
+        second,
+        numbers,
+        places,
+        modes,
+    };
+    let parsed = list_payload(payload, &mut buffers);
     tell(parsed, idm, challenge, fields, parts)
 }

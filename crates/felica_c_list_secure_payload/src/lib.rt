@@ -8,6 +8,7 @@ ghost use Rattle.felica_c.specs.Boundary.{lent, told, telling};
 
 use felica_c::answer::FelicaAnswer;
 use felica_c::tell::tell;
+use felica_lists::buffers::ListBuffers;
 use felica_lists::list_secure_payload;
 
 #[unsafe(no_mangle)]
@@ -26,6 +27,13 @@ pub extern "C" fn felica_list_secure_payload(
 ) -> FelicaAnswer
     ensures { (told result (lent idm.new challenge.new fields.new parts.new) ≡ telling 0 payload.now (listed (read_secure command_code payload.now) (buffers first.old second.old numbers.old places.old modes.old)).answer (lent idm.old challenge.old fields.old parts.old)) × (buffers first.new second.new numbers.new places.new modes.new ≡ (listed (read_secure command_code payload.now) (buffers first.old second.old numbers.old places.old modes.old)).buffers) }
 {
-    let parsed = list_secure_payload(command_code, payload, first, second, numbers, places, modes);
+    let mut buffers = ListBuffers {
+        first,
+        second,
+        numbers,
+        places,
+        modes,
+    };
+    let parsed = list_secure_payload(command_code, payload, &mut buffers);
     tell(parsed, idm, challenge, fields, parts)
 }

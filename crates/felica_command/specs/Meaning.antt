@@ -140,13 +140,21 @@ command_is s idm challenge f =
 abbrev pub refusal_is : Refusal → Reading
 refusal_is why = refused (number_of why.reason) why.command_code
 
+-- a result of the parser, and how many elements of its command were long
+abbrev pub ParserResult : Type 0
+ParserResult = Result Parsed Refusal
+
+abbrev pub long_of : ParserResult → ℕ
+long_of (Ok p) = p.long
+long_of (Err why) = 0
+
 -- what a result says of the payload s
-abbrev pub meaning : List ℕ → Result Parsed Refusal → Reading
+abbrev pub meaning : List ℕ → ParserResult → Reading
 meaning s (Ok p) = gives (command_is s p.idm p.challenge (fields_of p.command)) p.long
 meaning s (Err why) = refusal_is why
 
 -- What `meaning` leaves open is pinned: a property is the one of its number, so that `Unknown` never holds 0 or 1.
-abbrev pub Canonical : Result Parsed Refusal → Type 0
+abbrev pub Canonical : ParserResult → Type 0
 Canonical (Ok p) = (fields_of p.command).property ≡ property_of (property_index (fields_of p.command).property)
 Canonical (Err why) = Unit {0}
 

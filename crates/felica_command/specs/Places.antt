@@ -1,14 +1,12 @@
 -- Where the parts of a command stand in its payload, by its layout: each behind what comes before it in field order.
 -- Assumes nothing.
-use Rattle.std.specs.Prelude.{ℕ, zero, suc, ◌+◌, ◌*◌, ◌≤◌, ◌≡◌, Bool, true, false, cond, List, length, get_or, drop, ltb, Result, Ok, Err}
+use Rattle.std.specs.Prelude.{ℕ, zero, suc, ◌+◌, ◌*◌, ◌≤◌, ◌≡◌, Bool, true, false, cond, List, length, get_or, drop, ltb, Ok, Err}
 use Rattle.felica_format.specs.Command.{Command}
 use Rattle.felica_format.specs.Layout.{Selector, no_selector, type_byte, any_byte, Codes, no_codes, ◌to◌, Behind, nothing, ignored_bytes, a_package}
 use Rattle.felica_format.specs.Layout.{Layout, layout_of}
 use Rattle.felica_format.specs.Read.{size_of, Answer as Reading, gives, refused, read_payload, read_secure}
-use Rattle.felica_command.specs.Meaning.{part, no_part, Fields, fields_of, meaning, Canonical}
+use Rattle.felica_command.specs.Meaning.{part, no_part, Fields, fields_of, ParserResult, meaning, Canonical}
 use Rattle.felica_command.specs.declared.command.Part.{Part}
-use Rattle.felica_command.specs.declared.command.Parsed.{Parsed}
-use Rattle.felica_command.specs.declared.command.Refusal.{Refusal}
 
 pub record Places : Type 0 where
   pub first : Part
@@ -27,7 +25,7 @@ no_places = places no_part no_part no_part no_part no_part
 abbrev pub places_in : Fields → Places
 places_in f = places f.first f.second f.elements f.block_data f.issue_package
 
-abbrev pub places_of : Result Parsed Refusal → Places
+abbrev pub places_of : ParserResult → Places
 places_of (Ok p) = places_in (fields_of p.command)
 places_of (Err why) = no_places
 
@@ -106,7 +104,7 @@ read_places at s (gives c long) = layout_places (layout_of c.code) at s c
 read_places at s (refused n code) = no_places
 
 -- The complete account of a result r for the payload s, whose body begins at `at`, where the definitions say `reading`.
-abbrev pub Account : List ℕ → ℕ → Reading → Result Parsed Refusal → Type 0
+abbrev pub Account : List ℕ → ℕ → Reading → ParserResult → Type 0
 Account s at reading r = (meaning s r ≡ reading) × (places_of r ≡ read_places at s reading) × Canonical r
 
 -- a part of codes, of elements, of bytes lies inside the payload s
@@ -132,4 +130,4 @@ SecureInside = (code : ℕ) (s : List ℕ) → Inside s (read_places 0 s (read_s
 
 -- An account leaves nothing open: no two results meet it (proofs/OneAccount.antt).
 abbrev pub OneAccount : Type 0
-OneAccount = (s : List ℕ) (at : ℕ) (reading : Reading) (r t : Result Parsed Refusal) → Account s at reading r → Account s at reading t → r ≡ t
+OneAccount = (s : List ℕ) (at : ℕ) (reading : Reading) (r t : ParserResult) → Account s at reading r → Account s at reading t → r ≡ t

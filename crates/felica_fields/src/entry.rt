@@ -6,7 +6,6 @@ ghost use Rattle.felica_text.specs.Text.{word_text};
 ghost use Rattle.felica_fields.specs.Entries.{read_code, element_text, formed_text, taken_text, entry_text};
 
 use felica_command::types::BlockListElement;
-use felica_cursor::answers::ElementTaken;
 use felica_cursor::cursor::{Cursor, word_of};
 
 pub(crate) fn code_at(payload: &[u8], at: usize) -> Option<(u16, usize)>
@@ -22,8 +21,8 @@ pub(crate) fn code_at(payload: &[u8], at: usize) -> Option<(u16, usize)>
 pub(crate) fn element_at(payload: &[u8], at: usize) -> Option<(BlockListElement, usize)>
     ensures { taken_text formed_text (read_element (drop at payload.now)) ≡ entry_text (λ e. element_text (element_is e)) payload.now result }
 {
-    match (Cursor { at }).take_element(payload) {
-        ElementTaken::Element(element, _, behind) => Some((element, behind.at)),
-        ElementTaken::Refused(_) => None,
+    match (Cursor { payload, at }).take_element() {
+        Ok((taken, behind)) => Some((taken.element, behind.at)),
+        Err(_) => None,
     }
 }

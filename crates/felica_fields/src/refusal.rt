@@ -10,15 +10,11 @@ pub fn put_refusal(out: &mut Output<u8>, refusal: Refusal)
     ensures { Puts out.old out.new (refusal_text refusal) }
 {
     out.put_all(b"NO ");
-    match refusal {
-        Refusal::Number(number) => {
-            put_decimal(out, number as usize);
-            out.put_all(b" --");
-        }
-        Refusal::OfCommand(number, code) => {
-            put_decimal(out, number as usize);
-            out.put(b' ');
-            put_hex_byte(out, code);
-        }
-    }
+    put_decimal(out, usize::from(refusal.reason.number()));
+    let Some(code) = refusal.command_code else {
+        out.put_all(b" --");
+        return;
+    };
+    out.put(b' ');
+    put_hex_byte(out, code);
 }

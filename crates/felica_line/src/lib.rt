@@ -11,7 +11,7 @@ ghost use Rattle.felica_line.specs.Line.{frame_text, record_line, accepted_block
 mod accepted;
 
 use accepted::put_accepted;
-use felica_command::command::{Answer, Parsed};
+use felica_command::command::{Parsed, Refusal};
 use felica_fields::refusal::put_refusal;
 use felica_frame::{parse_frame, payload_of};
 use felica_put::Output;
@@ -30,18 +30,18 @@ pub fn put_frame_line(out: &mut Output<u8>, ordinal: usize, frame: &[u8]) -> Opt
 }
 
 // What the parser gave for the payload, without ordinal and line feed.
-fn put_result(out: &mut Output<u8>, payload: &[u8], parsed: Parsed) -> Option<usize>
+fn put_result(out: &mut Output<u8>, payload: &[u8], parsed: Result<Parsed, Refusal>) -> Option<usize>
     requires { Inside payload.now (places_of parsed) }
     ensures text { Puts out.old out.new (frame_text (meaning payload.now parsed)) }
     ensures blocks { result ≡ accepted_blocks (meaning payload.now parsed) }
 {
-    match parsed.answer {
-        Answer::Command(command) => {
-            let lists = command.lists();
-            put_accepted(out, command.command_code(), payload, lists, parsed.long);
+    match parsed {
+        Ok(parsed) => {
+            let lists = parsed.command.lists();
+            put_accepted(out, parsed.command.command_code(), payload, lists, parsed.long);
             Some(lists.block_list.count)
         }
-        Answer::Refused(refusal) => {
+        Err(refusal) => {
             put_refusal(out, refusal);
             None
         }

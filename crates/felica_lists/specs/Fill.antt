@@ -1,12 +1,10 @@
 -- The steps of the list reader: the lists of a command's parts, written where every buffer has room, and the result that goes with them.
 -- Assumes nothing.
 use Rattle.std.specs.Prelude.{ℕ, Bool, ◌&&◌, cond, List, map, length, leb, Some, Result, Ok, Err}
-use Rattle.felica_command.specs.Meaning.{codes_at, elements_at, fields_of, refusal}
+use Rattle.felica_command.specs.Meaning.{codes_at, elements_at, fields_of, ParserResult, refusal}
 use Rattle.felica_command.specs.Places.{CodesInside, ElementsInside}
 use Rattle.felica_command.specs.Lists.{lists_in}
 use Rattle.felica_command.specs.declared.command.Part.{Part}
-use Rattle.felica_command.specs.declared.command.Parsed.{Parsed}
-use Rattle.felica_command.specs.declared.command.Refusal.{Refusal}
 use Rattle.felica_format.specs.declared.error.Reason.{Reason}
 use Rattle.felica_format.specs.declared.error.Reason.TheVariants.{BufferTooSmall}
 use Rattle.felica_command.specs.declared.lists.Lists.{Lists}
@@ -51,14 +49,14 @@ fill lists b = cond (fits lists b) (filled (Ok tt) (fronts lists b)) (filled (Er
 
 -- a result, and the buffers that go with it
 pub record Given : Type 0 where
-  pub result : Result Parsed Refusal
+  pub result : ParserResult
   pub buffers : Buffers
 
-abbrev pub given : Result Parsed Refusal → Buffers → Given
+abbrev pub given : ParserResult → Buffers → Given
 given result b = record { result = result; buffers = b }
 
 -- what the list reader makes of a result of the parser
-abbrev pub give : List ℕ → Result Parsed Refusal → Buffers → Given
+abbrev pub give : List ℕ → ParserResult → Buffers → Given
 give s (Ok p) b =
     let lists = lists_at s (lists_in (fields_of p.command)) in
     cond (fits lists b) (given (Ok p) (fronts lists b)) (given (Err (refusal BufferTooSmall (Some (fields_of p.command).code))) b)

@@ -1,13 +1,11 @@
 -- What follows from the definition of the list reader, in document 01's words, as statements. Each is proved under its name in proofs/Rules.antt.
 -- Assumes nothing.
-use Rattle.std.specs.Prelude.{ℕ, ◌≡◌, ◌⊎◌, ◌↔◌, false, List, Option, Some, Result, Err}
+use Rattle.std.specs.Prelude.{ℕ, ◌≡◌, ◌⊎◌, ◌↔◌, false, List, Option, Some, Err}
 use Rattle.felica_format.specs.Command.{Command}
 use Rattle.felica_format.specs.Read.{Answer as Reading, gives, refused, read_frame, read_payload, read_secure}
-use Rattle.felica_command.specs.Meaning.{meaning, Canonical, refusal}
+use Rattle.felica_command.specs.Meaning.{ParserResult, meaning, Canonical, refusal}
 use Rattle.felica_command.specs.Places.{places_of, read_places, Account, Inside}
 use Rattle.felica_format.specs.declared.error.Reason.TheVariants.{BufferTooSmall}
-use Rattle.felica_command.specs.declared.command.Parsed.{Parsed}
-use Rattle.felica_command.specs.declared.command.Refusal.{Refusal}
 use Rattle.felica_lists.specs.Lists.{Buffers, lists_of, fits, outcome, listed}
 
 -- "No lent buffer is touched" by a refusal.
@@ -33,16 +31,16 @@ SecureTwentyOne = (code : ℕ) (s : List ℕ) → TwentyOneExactly (read_secure 
 
 -- The contract of the list reader: for the payload s, whose body begins at `at`, the definitions say `reading`; the buffers held b, the result is r, and
 -- then they hold a.
-abbrev pub ListAccount : List ℕ → ℕ → Reading → Buffers → Result Parsed Refusal → Buffers → Type 0
+abbrev pub ListAccount : List ℕ → ℕ → Reading → Buffers → ParserResult → Buffers → Type 0
 ListAccount s at reading b r a =
     (outcome (meaning s r) a ≡ listed reading b) × (places_of r ≡ read_places at s (meaning s r)) × Canonical r × Inside s (places_of r)
 
 -- It leaves nothing open: no two results meet it, and no two contents of the buffers.
 abbrev pub OneListAccount : Type 0
-OneListAccount = (s : List ℕ) (at : ℕ) (reading : Reading) (b : Buffers) (r t : Result Parsed Refusal) (a e : Buffers)
+OneListAccount = (s : List ℕ) (at : ℕ) (reading : Reading) (b : Buffers) (r t : ParserResult) (a e : Buffers)
     → ListAccount s at reading b r a → ListAccount s at reading b t e → (r ≡ t) × (a ≡ e)
 
 -- It "gives the parser's result or refusal", or 21 where a buffer is too small: p is what the parser gives for the same bytes.
 abbrev pub ParsersResult : Type 0
-ParsersResult = (s : List ℕ) (at : ℕ) (reading : Reading) (b : Buffers) (p r : Result Parsed Refusal) (a : Buffers)
+ParsersResult = (s : List ℕ) (at : ℕ) (reading : Reading) (b : Buffers) (p r : ParserResult) (a : Buffers)
     → Account s at reading p → ListAccount s at reading b r a → (r ≡ p) ⊎ ((code : Option ℕ) × TooSmall reading b code × (r ≡ Err (refusal BufferTooSmall code)))

@@ -4,6 +4,9 @@ use Rattle.std.proofs.Common.{ℕ, suc, ◌+◌, ◌≤◌, ◌<◌, ◌≡◌, 
 use Rattle.std.proofs.Common.{length, ltb, Ok, Err, is_ok}
 use Rattle.std.specs.Prelude.{Some}
 use Rattle.std.proofs.lemmas.Bool.{lt-ltb, le-ltb, le-leb, lt-leb, ltb-true, ltb-false}
+use Rattle.felica_format.specs.Reasons.{number_of}
+use Rattle.felica_format.specs.declared.error.Reason.{Reason}
+use Rattle.felica_format.specs.declared.error.Reason.TheVariants.{BufferTooSmall, Unwritable}
 use Rattle.felica_format.specs.declared.classes.Class.{Class}
 use Rattle.felica_format.specs.declared.classes.Class.TheVariants.{Plain, Secure, Unknown}
 use Rattle.felica_format.specs.Command.{Command}
@@ -40,12 +43,12 @@ module _ (c : Command) (out : List ℕ) where
         rw (ok, is, le-ltb (length out) (length s) h, ap (λ b. b.bytes) front, ap (λ b. b.next) front)
 
 -- what the tests of the room say
-enough_tests : (a b : Bool) → cond {A = Room} a (Err 22) (cond b (Err 21) (Ok tt)) ≡ Ok tt → (a ≡ false) × (b ≡ false)
+enough_tests : (a b : Bool) → cond {A = Room} a (Err Unwritable) (cond b (Err BufferTooSmall) (Ok tt)) ≡ Ok tt → (a ≡ false) × (b ≡ false)
 enough_tests true b r = (cc, cc)
 enough_tests false true r = (refl, cc)
 enough_tests false false r = (refl, refl)
 
-enough_test : (b : Bool) → cond {A = Room} b (Err 21) (Ok tt) ≡ Ok tt → b ≡ false
+enough_test : (b : Bool) → cond {A = Room} b (Err BufferTooSmall) (Ok tt) ≡ Ok tt → b ≡ false
 enough_test true r = cc
 enough_test false r = refl
 
@@ -85,38 +88,38 @@ module _ (c : Command) (k : Class) (l : Layout) (found : row k l ≡ row_of c.co
     -- a plain command has no package
     plain_whole : k ≡ Plain → suc (suc (length (body_bytes l [] c))) ≡ 2 + size
     plain_whole e =
-        let None = plain_package c.code c.issue_package (sym class_is ∙ e) in
+        let none = plain_package c.code c.issue_package (sym class_is ∙ e) in
         let all = (ready l c narrow ok).all_package in
-        let empty : length c.issue_package ≡ 0 = ap length (sym all ∙ ap (λ (m : Layout). package_bytes m.behind c.issue_package) layout_is ∙ None) in
+        let empty : length c.issue_package ≡ 0 = ap length (sym all ∙ ap (λ (m : Layout). package_bytes m.behind c.issue_package) layout_is ∙ none) in
         omega (arith, whole, empty)
 
     module _ (out : List ℕ) where
       -- a ground that the room gives is the writer's
-      Ground : Class → ℕ → Type 0
-      Ground j g = ((g ≡ 22) × (fits_class j c ≡ false)) ⊎ ((g ≡ 21) × (fits_class j c ≡ true) × (length out < length (shortest j c)))
+      Ground : Class → Reason → Type 0
+      Ground j g = ((g ≡ Unwritable) × (fits_class j c ≡ false)) ⊎ ((g ≡ BufferTooSmall) × (fits_class j c ≡ true) × (length out < length (shortest j c)))
 
-      frame_ground : (g : ℕ) → k ≡ Plain → frame_room size (length out) ≡ Err g → Ground Plain g
+      frame_ground : (g : Reason) → k ≡ Plain → frame_room size (length out) ≡ Err g → Ground Plain g
       unfolding Ground
       frame_ground g e r = go (ltb 255 (2 + size)) (ltb (length out) (2 + size)) refl refl r
         where
-          go : (a b : Bool) → ltb 255 (2 + size) ≡ a → ltb (length out) (2 + size) ≡ b → cond {A = Room} a (Err 22) (cond b (Err 21) (Ok tt)) ≡ Err g
-              → ((g ≡ 22) × (fits_class Plain c ≡ false)) ⊎ ((g ≡ 21) × (fits_class Plain c ≡ true) × (length out < length (shortest Plain c)))
+          go : (a b : Bool) → ltb 255 (2 + size) ≡ a → ltb (length out) (2 + size) ≡ b → cond {A = Room} a (Err Unwritable) (cond b (Err BufferTooSmall) (Ok tt)) ≡ Err g
+              → ((g ≡ Unwritable) × (fits_class Plain c ≡ false)) ⊎ ((g ≡ BufferTooSmall) × (fits_class Plain c ≡ true) × (length out < length (shortest Plain c)))
           go true b long small r = inl (cc, rw (frame_is, plain_whole e) (lt-leb (2 + size) 255 (ltb-true 255 (2 + size) long)))
           go false true long small r =
               inr
               (cc, rw (frame_is, plain_whole e) (le-leb (2 + size) 255 (ltb-false 255 (2 + size) long)), rw (frame_is, plain_whole e) (ltb-true (length out) (2 + size) small))
           go false false long small r = cc
 
-      payload_ground : (g : ℕ) → payload_room size (length c.issue_package) (length out) ≡ Err g → Ground Secure g
+      payload_ground : (g : Reason) → payload_room size (length c.issue_package) (length out) ≡ Err g → Ground Secure g
       unfolding Ground
       payload_ground g r = go (ltb (length out) (size + length c.issue_package)) refl r
         where
-          go : (b : Bool) → ltb (length out) (size + length c.issue_package) ≡ b → cond {A = Room} b (Err 21) (Ok tt) ≡ Err g
-              → ((g ≡ 22) × (fits_class Secure c ≡ false)) ⊎ ((g ≡ 21) × (fits_class Secure c ≡ true) × (length out < length (shortest Secure c)))
+          go : (b : Bool) → ltb (length out) (size + length c.issue_package) ≡ b → cond {A = Room} b (Err BufferTooSmall) (Ok tt) ≡ Err g
+              → ((g ≡ Unwritable) × (fits_class Secure c ≡ false)) ⊎ ((g ≡ BufferTooSmall) × (fits_class Secure c ≡ true) × (length out < length (shortest Secure c)))
           go true small r = inr (cc, refl, rw (payload_is, sym whole) (ltb-true _ _ small))
           go false small r = cc
 
-      ground : (j : Class) (g : ℕ) → k ≡ j → room_for j size (length c.issue_package) (length out) ≡ Err g → Ground j g
+      ground : (j : Class) (g : Reason) → k ≡ j → room_for j size (length c.issue_package) (length out) ≡ Err g → Ground j g
       unfolding Ground
       ground Plain g e r = frame_ground g e r
       ground Secure g e r = payload_ground g r
@@ -137,19 +140,19 @@ module _ (c : Command) (k : Class) (l : Layout) (found : row k l ≡ row_of c.co
       unfolding writable
       may b e = sym (pass _ _ (ap (λ (m : Layout). body_ok m c) (sym layout_is) ∙ ok)) ∙ ap (λ (j : Class). fits_class j c) (sym class_is) ∙ e
 
-      no_room : (g : ℕ) → room_for k size (length c.issue_package) (length out) ≡ Err g → outcome (refused g (Some c.code)) out ≡ writing c out
+      no_room : (g : Reason) → room_for k size (length c.issue_package) (length out) ≡ Err g → outcome (refused (number_of g) (Some c.code)) out ≡ writing c out
       unfolding Ground
       no_room g r = elim (ground k g refl r) [ inl h ↦ does_not_fit h | inr h ↦ too_small h ]
         where
-          does_not_fit : (g ≡ 22) × (fits_class k c ≡ false) → outcome (refused g (Some c.code)) out ≡ writing c out
+          does_not_fit : (g ≡ Unwritable) × (fits_class k c ≡ false) → outcome (refused (number_of g) (Some c.code)) out ≡ writing c out
           does_not_fit h = rw h.0 (unwritten c out (may false h.1))
 
-          too_small : (g ≡ 21) × (fits_class k c ≡ true) × (length out < length (shortest k c)) → outcome (refused g (Some c.code)) out ≡ writing c out
+          too_small : (g ≡ BufferTooSmall) × (fits_class k c ≡ true) × (length out < length (shortest k c)) → outcome (refused (number_of g) (Some c.code)) out ≡ writing c out
           too_small h = rw h.0 (buffer_small c out (shortest k c) (may true h.1) (ap (λ (j : Class). shortest j c) (sym class_is)) h.2)
 
-      -- the same of a result that has the number of the refusal
+      -- the same of a result that says why
       pub not_stored : (r : Room) → room_for k size (length c.issue_package) (length out) ≡ r → is_ok r ≡ false → {w : Written}
-          → ((g : ℕ) → r ≡ Err g → w ≡ refusal g c.code) → outcome (meaning w) out ≡ writing c out
+          → ((g : Reason) → r ≡ Err g → w ≡ refusal g c.code) → outcome (meaning w) out ≡ writing c out
       not_stored (Ok tt) e fails tells = cc
       not_stored (Err g) e fails tells = rw (tells g refl) (no_room g e)
 

@@ -17,11 +17,12 @@ use Rattle.felica_format.proofs.Demand3.{other_payloads_longer, short_frame_writ
 use Rattle.felica_format.proofs.Demand3.{payload_read_back, two_frames, two_payloads, frame_long_counted, payload_long_counted}
 use Rattle.felica_format.proofs.Steps.{not_given}
 use Rattle.felica_command.specs.Meaning as parser
-use Rattle.felica_command.specs.Meaning.{answer_is}
-use Rattle.felica_command.specs.declared.command.Refusal.TheVariants.{Number, OfCommand}
-use Rattle.felica_command.specs.declared.command.Answer.{Answer as Parsing}
-use Rattle.felica_command.specs.declared.command.Answer.TheVariants.{Command as AnswerCommand, Refused as AnswerRefused}
-use Rattle.felica_command.specs.declared.command.Parsed.{Parsed}
+use Rattle.felica_format.specs.Reasons.{number_of}
+use Rattle.felica_format.specs.declared.error.Reason.{Reason}
+use Rattle.felica_format.specs.declared.error.Reason.TheVariants.{Unwritable}
+use Rattle.felica_format.proofs.Reasons.{one_reason}
+use Rattle.felica_command.specs.Meaning.{ParserResult, long_of, refusal as refused_for}
+use Rattle.felica_command.specs.declared.command.Refusal.{Refusal}
 use Rattle.felica_write.specs.Writing.{wrote, refused, Written, meaning, refusal, outcome, stored, store, writing}
 use Rattle.felica_write.specs.Rules.{WriterAccount, FrameParsed, PayloadParsed, FrameIs, PayloadIs, OneWriterAccount, RefusedUntouched}
 use Rattle.felica_write.specs.Rules.{TwentyOneExactly, TwentyTwoExactly, BehindKept, WrittenFrameRead, WrittenPayloadRead, ShortestFrame}
@@ -30,16 +31,17 @@ use Rattle.felica_write.specs.Rules.{ShortestPayload, FramesReadAreChoices, Payl
 use Rattle.felica_write.specs.Rules.{FrameLongTold, PayloadLongTold}
 
 -- a result is settled by what it says
+refusal_same : {a b : Reason} {c d : Option ℕ} → a ≡ b → c ≡ d → refused_for a c ≡ refused_for b d
+refusal_same p q = rw (p, q)
+
 meaning_one : (r t : Written) → meaning r ≡ meaning t → r ≡ t
 meaning_one (Ok n) (Ok m) e = cc
-meaning_one (Ok n) (Err (Number m)) e = cc
-meaning_one (Ok n) (Err (OfCommand m k)) e = cc
-meaning_one (Err (Number n)) (Ok m) e = cc
-meaning_one (Err (Number n)) (Err (Number m)) e = cc
-meaning_one (Err (Number n)) (Err (OfCommand m k)) e = cc
-meaning_one (Err (OfCommand n j)) (Ok m) e = cc
-meaning_one (Err (OfCommand n j)) (Err (Number m)) e = cc
-meaning_one (Err (OfCommand n j)) (Err (OfCommand m k)) e = cc
+meaning_one (Ok n) (Err w) e = cc
+meaning_one (Err w) (Ok m) e = cc
+meaning_one (Err w) (Err v) e =
+    let number : number_of w.reason ≡ number_of v.reason = cc in
+    let code : w.command_code ≡ v.command_code = cc in
+    ap Err (refusal_same (one_reason w.reason v.reason number) code)
 
 pub one_writer_account : OneWriterAccount
 one_writer_account c b r t a e p q =
@@ -148,16 +150,16 @@ twenty_two_exactly c b r a e = (
     there (Some s) q said = absurd (short s (ltb (length b) (length s)) said)
 
 -- what the parser reads is what the bytes give, and the other way round
-frame_gives : (c : Command) (s : List ℕ) (p : Parsed) → Bytes s → FrameParsed s p → FrameIs s p c → FrameGives s c
+frame_gives : (c : Command) (s : List ℕ) (p : ParserResult) → Bytes s → FrameParsed s p → FrameIs s p c → FrameGives s c
 frame_gives c s p small parsed given = (small, given.0, sym parsed.0 ∙ given.1)
 
-payload_gives : (c : Command) (code : ℕ) (s : List ℕ) (p : Parsed) → Bytes s → PayloadParsed code s p → PayloadIs s p c → PayloadGives code s c
+payload_gives : (c : Command) (code : ℕ) (s : List ℕ) (p : ParserResult) → Bytes s → PayloadParsed code s p → PayloadIs s p c → PayloadGives code s c
 payload_gives c code s p small parsed given = (small, given.0, sym parsed.0 ∙ given.1)
 
-frame_is : (c : Command) (s : List ℕ) (p : Parsed) → FrameParsed s p → FrameGives s c → FrameIs s p c
+frame_is : (c : Command) (s : List ℕ) (p : ParserResult) → FrameParsed s p → FrameGives s c → FrameIs s p c
 frame_is c s p parsed gave = (gave.1, parsed.0 ∙ gave.2)
 
-payload_is : (c : Command) (code : ℕ) (s : List ℕ) (p : Parsed) → PayloadParsed code s p → PayloadGives code s c → PayloadIs s p c
+payload_is : (c : Command) (code : ℕ) (s : List ℕ) (p : ParserResult) → PayloadParsed code s p → PayloadGives code s c → PayloadIs s p c
 payload_is c code s p parsed gave = (gave.1, parsed.0 ∙ gave.2)
 
 pub unwritable_unread : UnwritableUnread
@@ -232,13 +234,9 @@ two_payloads_read c s t p q small small' parsed given parsed' given' =
     two_payloads c s t (payload_gives c c.code s p small parsed given) (payload_gives c c.code t q small' parsed' given')
 
 -- the count that a result tells is the count that goes with its command
-answer_long : (s idm challenge : List ℕ) (long n : ℕ) (c : Command) (a : Parsing) → answer_is s idm challenge long a ≡ gives c n → long ≡ n
-answer_long s idm challenge long n c (AnswerCommand k) e = cc
-answer_long s idm challenge long n c (AnswerRefused (Number m)) e = absurd (not_given e)
-answer_long s idm challenge long n c (AnswerRefused (OfCommand m k)) e = absurd (not_given e)
-
-long_told : (s : List ℕ) (p : Parsed) (c : Command) (n : ℕ) → parser.meaning s p ≡ gives c n → p.long ≡ n
-long_told s p c n e = answer_long s p.idm p.challenge p.long n c p.answer e
+long_told : (s : List ℕ) (p : ParserResult) (c : Command) (n : ℕ) → parser.meaning s p ≡ gives c n → long_of p ≡ n
+long_told s (Ok p) c n e = cc
+long_told s (Err why) c n e = absurd (not_given e)
 
 pub frame_long_told : FrameLongTold
 frame_long_told c has forms p short parsed = long_told (drop 1 (frame_of forms c)) p c _ (parsed.0 ∙ frame_long_counted c has forms short)
@@ -248,4 +246,4 @@ payload_long_told c has forms tail p follows parsed = long_told (secure_of forms
 
 pub number_alone : NumberAlone
 unfolding writing written writable body_ok idm_ok selector_ok codes_ok same_length layout_of layout_in has plain_rows ◌and◌
-number_alone n b r a e = meaning_one r (refusal 22 0x04) (ap (λ o. o.answer) e)
+number_alone n b r a e = meaning_one r (refusal Unwritable 0x04) (ap (λ o. o.answer) e)

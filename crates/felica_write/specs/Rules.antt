@@ -3,6 +3,7 @@
 -- Assumes nothing.
 use Rattle.std.specs.Prelude.{ℕ, ◌≤◌, ◌<◌, ◌≡◌, ◌⊎◌, ◌≢◌, ◌↔◌, List, [], ◌∷◌, ◌++◌, length, take, drop, Ok}
 use Rattle.std.specs.Prelude.{Option, Some}
+use Rattle.felica_format.specs.declared.error.Reason.TheVariants.{Unwritable}
 use Rattle.felica_format.specs.declared.classes.Class.TheVariants.{Plain, Secure}
 use Rattle.felica_format.specs.Basic.{Bytes, zeros}
 use Rattle.felica_format.specs.Command.{Command, elements_of}
@@ -13,7 +14,7 @@ use Rattle.felica_format.specs.Writable.{written}
 use Rattle.felica_format.specs.Demand3.{HasFrame, HasPayload, FrameChoice, PayloadChoice, MayFollow, Around}
 use Rattle.felica_command.specs.Meaning as parser
 use Rattle.felica_command.specs.Places.{Account}
-use Rattle.felica_command.specs.declared.command.Parsed.{Parsed}
+use Rattle.felica_command.specs.Meaning.{ParserResult, long_of}
 use Rattle.felica_write.specs.Writing.{refused, Written, meaning, refusal, outcome, writing}
 
 -- The contract of the writer: it was handed c, the buffer held b, the result is r, and then the buffer holds a.
@@ -21,17 +22,17 @@ abbrev pub WriterAccount : Command → List ℕ → Written → List ℕ → Typ
 WriterAccount c b r a = outcome (meaning r) a ≡ writing c b
 
 -- The contract of the parser: p is its result for the frame s; for the payload s of a secure code.
-abbrev pub FrameParsed : List ℕ → Parsed → Type 0
+abbrev pub FrameParsed : List ℕ → ParserResult → Type 0
 FrameParsed s p = Account (drop 1 s) 1 (read_frame s) p
 
-abbrev pub PayloadParsed : ℕ → List ℕ → Parsed → Type 0
+abbrev pub PayloadParsed : ℕ → List ℕ → ParserResult → Type 0
 PayloadParsed code s p = Account s 0 (read_secure code s) p
 
 -- and p is the command c; how many of its elements were long is no part of the command
-abbrev pub FrameIs : List ℕ → Parsed → Command → Type 0
+abbrev pub FrameIs : List ℕ → ParserResult → Command → Type 0
 FrameIs s p c = (long : ℕ) × (parser.meaning (drop 1 s) p ≡ gives c long)
 
-abbrev pub PayloadIs : List ℕ → Parsed → Command → Type 0
+abbrev pub PayloadIs : List ℕ → ParserResult → Command → Type 0
 PayloadIs s p c = (long : ℕ) × (parser.meaning s p ≡ gives c long)
 
 -- The writer's contract leaves nothing open: no two results meet it, and no two contents of the buffer.
@@ -75,7 +76,7 @@ TwentyTwoExactly =
 abbrev pub UnwritableUnread : Type 0
 UnwritableUnread =
     (c : Command) (b : List ℕ) (r : Written) (a : List ℕ) → WriterAccount c b r a → meaning r ≡ refused 22 (Some c.code)
-    → (s : List ℕ) (p : Parsed) → Bytes s → (FrameParsed s p → ¬ FrameIs s p c) × ((code : ℕ) → PayloadParsed code s p → ¬ PayloadIs s p c)
+    → (s : List ℕ) (p : ParserResult) → Bytes s → (FrameParsed s p → ¬ FrameIs s p c) × ((code : ℕ) → PayloadParsed code s p → ¬ PayloadIs s p c)
 
 -- "bytes behind keep their values"
 abbrev pub BehindKept : Type 0
@@ -84,51 +85,51 @@ BehindKept = (c : Command) (b : List ℕ) (n : ℕ) (a : List ℕ) → WriterAcc
 -- "What the writer writes, the parser reads as the command given."
 abbrev pub WrittenFrameRead : Type 0
 WrittenFrameRead =
-    (c : Command) (b : List ℕ) (n : ℕ) (a : List ℕ) (p : Parsed) → class_of c.code ≡ Plain → WriterAccount c b (Ok n) a
+    (c : Command) (b : List ℕ) (n : ℕ) (a : List ℕ) (p : ParserResult) → class_of c.code ≡ Plain → WriterAccount c b (Ok n) a
     → FrameParsed (take n a) p → FrameIs (take n a) p c
 
 abbrev pub WrittenPayloadRead : Type 0
 WrittenPayloadRead =
-    (c : Command) (b : List ℕ) (n : ℕ) (a : List ℕ) (p : Parsed) → class_of c.code ≡ Secure → WriterAccount c b (Ok n) a
+    (c : Command) (b : List ℕ) (n : ℕ) (a : List ℕ) (p : ParserResult) → class_of c.code ≡ Secure → WriterAccount c b (Ok n) a
     → PayloadParsed c.code (take n a) p → PayloadIs (take n a) p c
 
 -- "the all-short one is among them, every other has more bytes, and the writer writes it byte for byte": where the parser reads c in a frame s, the writer
 -- that is handed c writes the all-short choice, if there is room; the parser reads c in it; and s, if it is another frame, has more bytes.
 abbrev pub ShortestFrame : Type 0
 ShortestFrame =
-    (c : Command) (s : List ℕ) (p : Parsed) (b : List ℕ) (r : Written) (a : List ℕ) → Bytes s → FrameParsed s p → FrameIs s p c
+    (c : Command) (s : List ℕ) (p : ParserResult) (b : List ℕ) (r : Written) (a : List ℕ) → Bytes s → FrameParsed s p → FrameIs s p c
     → length (frame_of [] c) ≤ length b → WriterAccount c b r a
     → (r ≡ Ok (length (frame_of [] c))) × (a ≡ frame_of [] c ++ drop (length (frame_of [] c)) b)
-    × ((q : Parsed) → FrameParsed (frame_of [] c) q → FrameIs (frame_of [] c) q c)
+    × ((q : ParserResult) → FrameParsed (frame_of [] c) q → FrameIs (frame_of [] c) q c)
     × (s ≢ frame_of [] c → length (frame_of [] c) < length s)
 
 abbrev pub ShortestPayload : Type 0
 ShortestPayload =
-    (c : Command) (code : ℕ) (s : List ℕ) (p : Parsed) (b : List ℕ) (r : Written) (a : List ℕ) → Bytes s → PayloadParsed code s p → PayloadIs s p c
+    (c : Command) (code : ℕ) (s : List ℕ) (p : ParserResult) (b : List ℕ) (r : Written) (a : List ℕ) → Bytes s → PayloadParsed code s p → PayloadIs s p c
     → length (secure_of [] c) ≤ length b → WriterAccount c b r a
     → (r ≡ Ok (length (secure_of [] c))) × (a ≡ secure_of [] c ++ drop (length (secure_of [] c)) b)
-    × ((q : Parsed) → PayloadParsed c.code (secure_of [] c) q → PayloadIs (secure_of [] c) q c)
+    × ((q : ParserResult) → PayloadParsed c.code (secure_of [] c) q → PayloadIs (secure_of [] c) q c)
     × (s ≢ secure_of [] c → length (secure_of [] c) < length s)
 
 -- "The accepted frames of a command are exactly its choices of short or long form .. within 255 bytes", of a command that some frame gives
 abbrev pub FramesReadAreChoices : Type 0
-FramesReadAreChoices = (c : Command) → HasFrame c → (s : List ℕ) (p : Parsed) → Bytes s → FrameParsed s p → FrameIs s p c ↔ FrameChoice c s
+FramesReadAreChoices = (c : Command) → HasFrame c → (s : List ℕ) (p : ParserResult) → Bytes s → FrameParsed s p → FrameIs s p c ↔ FrameChoice c s
 
 -- "The same for secure payloads, with any ignored tail behind reads and writes."
 abbrev pub PayloadsReadAreChoices : Type 0
 PayloadsReadAreChoices =
-    (c : Command) → HasPayload c → (code : ℕ) (s : List ℕ) (p : Parsed) → Bytes s → PayloadParsed code s p → PayloadIs s p c ↔ PayloadChoice c code s
+    (c : Command) → HasPayload c → (code : ℕ) (s : List ℕ) (p : ParserResult) → Bytes s → PayloadParsed code s p → PayloadIs s p c ↔ PayloadChoice c code s
 
 -- Two frames that the parser reads as one command are equal but for the length byte and the forms of the elements.
 abbrev pub TwoFramesRead : Type 0
 TwoFramesRead =
-    (c : Command) (s t : List ℕ) (p q : Parsed) → Bytes s → Bytes t → FrameParsed s p → FrameIs s p c → FrameParsed t q → FrameIs t q c
+    (c : Command) (s t : List ℕ) (p q : ParserResult) → Bytes s → Bytes t → FrameParsed s p → FrameIs s p c → FrameParsed t q → FrameIs t q c
     → (before : List ℕ) × (after : List ℕ) × Around c (length s ∷ before) after s × Around c (length t ∷ before) after t
 
 -- the same of two payloads, but for the forms and the ignored tail
 abbrev pub TwoPayloadsRead : Type 0
 TwoPayloadsRead =
-    (c : Command) (s t : List ℕ) (p q : Parsed) → Bytes s → Bytes t → PayloadParsed c.code s p → PayloadIs s p c → PayloadParsed c.code t q
+    (c : Command) (s t : List ℕ) (p q : ParserResult) → Bytes s → Bytes t → PayloadParsed c.code s p → PayloadIs s p c → PayloadParsed c.code t q
     → PayloadIs t q c
     → (before : List ℕ) × (after : List ℕ) × (u : List ℕ) × (v : List ℕ) × MayFollow c.code u × MayFollow c.code v
     × Around c before (after ++ u) s × Around c before (after ++ v) t
@@ -136,13 +137,13 @@ TwoPayloadsRead =
 -- "how many were long": of a choice of forms, the parser's result tells how many elements it makes long.
 abbrev pub FrameLongTold : Type 0
 FrameLongTold =
-    (c : Command) → HasFrame c → (forms : Forms) (p : Parsed) → length (frame_of forms c) ≤ 255 → FrameParsed (frame_of forms c) p
-    → p.long ≡ long_in forms (elements_of c)
+    (c : Command) → HasFrame c → (forms : Forms) (p : ParserResult) → length (frame_of forms c) ≤ 255 → FrameParsed (frame_of forms c) p
+    → long_of p ≡ long_in forms (elements_of c)
 
 abbrev pub PayloadLongTold : Type 0
 PayloadLongTold =
-    (c : Command) → HasPayload c → (forms : Forms) (tail : List ℕ) (p : Parsed) → MayFollow c.code tail
-    → PayloadParsed c.code (secure_of forms c ++ tail) p → p.long ≡ long_in forms (elements_of c)
+    (c : Command) → HasPayload c → (forms : Forms) (tail : List ℕ) (p : ParserResult) → MayFollow c.code tail
+    → PayloadParsed c.code (secure_of forms c ++ tail) p → long_of p ≡ long_in forms (elements_of c)
 
 -- A block number without a place and a mode is no command: 04 with one is 22. The elements of its three lists would be none if the shortest list counted.
 abbrev pub only_number : ℕ → Command
@@ -166,4 +167,4 @@ only_number n =
     }
 
 abbrev pub NumberAlone : Type 0
-NumberAlone = (n : ℕ) (b : List ℕ) (r : Written) (a : List ℕ) → WriterAccount (only_number n) b r a → r ≡ refusal 22 0x04
+NumberAlone = (n : ℕ) (b : List ℕ) (r : Written) (a : List ℕ) → WriterAccount (only_number n) b r a → r ≡ refusal Unwritable 0x04

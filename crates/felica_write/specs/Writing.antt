@@ -5,7 +5,9 @@ use Rattle.std.specs.Prelude.{Option, None, Some}
 use Rattle.felica_format.specs.Command.{Command}
 use Rattle.felica_format.specs.Writable.{written}
 use Rattle.felica_command.specs.declared.command.Refusal.{Refusal}
-use Rattle.felica_command.specs.declared.command.Refusal.TheVariants.{Number, OfCommand}
+use Rattle.felica_format.specs.Reasons.{number_of}
+use Rattle.felica_format.specs.declared.error.Reason.{Reason}
+use Rattle.felica_command.specs.Meaning.{refusal as refused_for}
 
 -- how many bytes were written; or the number of a refusal, and the code
 pub data Answer : Type 0 where
@@ -18,11 +20,10 @@ Written = Result ℕ Refusal
 
 abbrev pub meaning : Written → Answer
 meaning (Ok n) = wrote n
-meaning (Err (Number n)) = refused n None
-meaning (Err (OfCommand n code)) = refused n (Some code)
+meaning (Err why) = refused (number_of why.reason) why.command_code
 
-abbrev pub refusal : ℕ → ℕ → Written
-refusal number code = Err (OfCommand number code)
+abbrev pub refusal : Reason → ℕ → Written
+refusal reason code = Err (refused_for reason (Some code))
 
 -- an answer, and the buffer behind the call
 pub record Outcome : Type 0 where

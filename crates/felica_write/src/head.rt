@@ -6,45 +6,45 @@ ghost use Rattle.felica_write.specs.Head.{room_for, frame_room, payload_room, he
 
 use felica_format::classes::Class;
 use felica_format::constants::MAX_PACKET_LEN;
-use felica_format::error;
+use felica_format::error::Reason;
 use felica_put::Output;
 
 // Bytes in front of the body of a frame.
 const HEAD_LEN: usize = 2;
 
 // Whether there is room for a body of `size` bytes and a package behind it: 22 where no frame is so long, 21 where the buffer is too small.
-pub(crate) fn room_for(class: Class, size: usize, package: usize, room: usize) -> Result<(), u8>
+pub(crate) fn room_for(class: Class, size: usize, package: usize, room: usize) -> Result<(), Reason>
     requires { size ≤ 6000 }
     ensures { result ≡ room_for class size «package» room }
 {
     match class {
         Class::Plain => frame_room(size, room),
         Class::Secure => payload_room(size, package, room),
-        Class::Unknown => Err(error::UNWRITABLE),
+        Class::Unknown => Err(Reason::Unwritable),
     }
 }
 
 // A plain command has no package.
-fn frame_room(size: usize, room: usize) -> Result<(), u8>
+fn frame_room(size: usize, room: usize) -> Result<(), Reason>
     requires { size ≤ 6000 }
     ensures { result ≡ frame_room size room }
 {
     let len = HEAD_LEN + size;
     if MAX_PACKET_LEN < len {
-        return Err(error::UNWRITABLE);
+        return Err(Reason::Unwritable);
     }
     if room < len {
-        return Err(error::BUFFER_TOO_SMALL);
+        return Err(Reason::BufferTooSmall);
     }
     Ok(())
 }
 
 // A package may be of any length, so that no sum with it is made.
-fn payload_room(size: usize, package: usize, room: usize) -> Result<(), u8>
+fn payload_room(size: usize, package: usize, room: usize) -> Result<(), Reason>
     ensures { result ≡ payload_room size «package» room }
 {
     if room < size || room - size < package {
-        return Err(error::BUFFER_TOO_SMALL);
+        return Err(Reason::BufferTooSmall);
     }
     Ok(())
 }

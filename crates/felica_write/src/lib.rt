@@ -11,7 +11,7 @@ mod size;
 
 use body::put_body;
 use felica_command::command::Refusal;
-use felica_format::error;
+use felica_format::error::Reason;
 use felica_layout::row_of;
 use felica_put::Output;
 use felica_writable::body_ok;
@@ -27,12 +27,11 @@ pub fn write(command: Handed<'_>, out: &mut [u8]) -> Result<usize, Refusal>
     let code = command.code;
     let row = row_of(code);
     if !body_ok(row.layout, command) {
-        return Err(Refusal::OfCommand(error::UNWRITABLE, code));
+        return Err(Refusal::of_command(Reason::Unwritable, code));
     }
     let size = body_size(row.layout, command);
-    room_for(row.class, size, command.package.len(), out.len()).map_err(|number| Refusal::OfCommand(
-        number, code,
-    ))?;
+    room_for(row.class, size, command.package.len(), out.len())
+        .map_err(|reason| Refusal::of_command(reason, code))?;
     let mut output = Output::new(out);
     put_head(&mut output, row.class, code, size);
     put_body(&mut output, row.layout, command);

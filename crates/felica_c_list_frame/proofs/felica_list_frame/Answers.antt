@@ -13,4 +13,4 @@ returns c =
     let a = c.args in
     let m = lent a.idm.now a.challenge.now a.fields.now a.parts.now in
     let b = buffers a.first.now a.second.now a.numbers.now a.places.now a.modes.now in
-    list_tells (drop 1 a.frame.now) 1 (listed (read_frame a.frame.now) b) p.result _ m _ p.ensures.0 p.ensures.1 c.tell.ensures
+    list_tells (drop 1 a.frame.now) 1 (listed (read_frame a.frame.now) b) p.result _ m _ p.ensures.listed.0 p.ensures.listed.1 c.tell.ensures

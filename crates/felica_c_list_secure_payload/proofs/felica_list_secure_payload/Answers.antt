@@ -12,4 +12,4 @@ returns c =
     let a = c.args in
     let m = lent a.idm.now a.challenge.now a.fields.now a.parts.now in
     let b = buffers a.first.now a.second.now a.numbers.now a.places.now a.modes.now in
-    list_tells a.payload.now 0 (listed (read_secure a.command_code a.payload.now) b) p.result _ m _ p.ensures.0 p.ensures.1 c.tell.ensures
+    list_tells a.payload.now 0 (listed (read_secure a.command_code a.payload.now) b) p.result _ m _ p.ensures.listed.0 p.ensures.listed.1 c.tell.ensures

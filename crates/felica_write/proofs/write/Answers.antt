@@ -2,6 +2,7 @@
 -- Assumes nothing.
 use Rattle.std.proofs.Common.{ℕ, ◌≡◌, sym, ◌∙◌, false, length, Ok, Err, is_ok, arith, rules}
 use Rattle.std.proofs.lemmas.Grind.{common_steps}
+use Rattle.felica_format.specs.declared.error.Reason.{Reason}
 use Rattle.felica_layout.specs.Layout.{layout_meant}
 use Rattle.felica_put.proofs.Laws.{puts_then}
 use Rattle.felica_writable.specs.Handed.{handed_by}
@@ -13,7 +14,8 @@ use Rattle.felica_write.proofs.write.Goals as goal
 pub returns-then-not-body_ok : goal.returns-then-not-body_ok
 returns-then-not-body_ok c =
     let row = c.row_of-row in
-    no_body (handed_by c.args.command) row.result.class (layout_meant row.result.layout) row.ensures c.args.out.now (sym c.body_ok.ensures ∙ c.if-not-body_ok.true)
+    rw c.of_command.ensures
+    (no_body (handed_by c.args.command) row.result.class (layout_meant row.result.layout) row.ensures c.args.out.now (sym c.body_ok.ensures ∙ c.if-not-body_ok.true))
 
 pub body_size-size-requires : goal.body_size-size-requires
 body_size-size-requires c =
@@ -24,7 +26,7 @@ returns-in_err-map_err c =
     let h = handed_by c.args.command in
     let row = c.row_of-row in
     let ok = sym c.body_ok.ensures ∙ c.if-not-body_ok.false in
-    let tells : (g : ℕ) → c.room_for.result ≡ Err g → c.from_residual.result ≡ refusal g c.args.command.code = λ g e. search rules in
+    let tells : (g : Reason) → c.room_for.result ≡ Err g → c.from_residual.result ≡ refusal g c.args.command.code = λ g e. search rules in
     let fails : is_ok c.room_for.result ≡ false = search rules in
     not_stored h row.result.class (layout_meant row.result.layout) row.ensures ok _ c.body_size-size.ensures.0 c.args.out.now _ (sym c.room_for.ensures) fails tells
 

@@ -3,13 +3,10 @@
 use Rattle.felica.proofs.lists.list.Goals as goal
 
 pub returns-in-Frame : goal.returns-in-Frame
-returns-in-Frame c = let w = c.list_frame in
-    rw c.in-Frame.is (w.ensures.0, w.ensures.3)
+returns-in-Frame c = rw c.in-Frame.is (c.list_frame.ensures)
 
 pub returns-in-Payload : goal.returns-in-Payload
-returns-in-Payload c = let w = c.list_payload in
-    rw c.in-Payload.is (w.ensures.0, w.ensures.3)
+returns-in-Payload c = rw c.in-Payload.is (c.list_payload.ensures)
 
 pub returns-in-Secure : goal.returns-in-Secure
-returns-in-Secure c = let w = c.list_secure_payload in
-    rw c.in-Secure.is (w.ensures.0, w.ensures.3)
+returns-in-Secure c = rw c.in-Secure.is (c.list_secure_payload.ensures)

@@ -6,17 +6,17 @@ use Rattle.felica_answers.specs.Lists.{lists_text}
 use Rattle.felica_answers.proofs.Listed.{command_line, refused_line}
 use Rattle.felica_answers.proofs.lists.put_listed.Goals as goal
 
-pub returns-in-Command : goal.returns-in-Command
+pub returns-in-Ok : goal.returns-in-Ok
 unfolding lists_text
-returns-in-Command c =
+returns-in-Ok c =
     puts_same
     (puts_then c.put_all.ensures
     (puts_then c.put_hex_byte.ensures
     (puts_then c.put_words_field.ensures
-    (puts_then c.put_words_field-in-Command.ensures
-    (puts_then c.put_words_field-in-Command-2.ensures (puts_then c.put_nibbles_field.ensures c.put_nibbles_field-in-Command.ensures))))))
-    (command_line _ _ _ _ _ _ c.in-Command.is c.lists-lists.ensures c.command_code.ensures c.front.ensures c.front-in-Command.ensures c.front-in-Command-2.ensures
-    c.front-in-Command-3.ensures c.front-in-Command-4.ensures)
+    (puts_then c.put_words_field-in-Ok.ensures
+    (puts_then c.put_words_field-in-Ok-2.ensures (puts_then c.put_nibbles_field.ensures c.put_nibbles_field-in-Ok.ensures))))))
+    (command_line _ _ c.in-Ok.is c.lists-lists.ensures c.command_code.ensures c.front.ensures c.front-in-Ok.ensures c.front-in-Ok-2.ensures
+    c.front-in-Ok-3.ensures c.front-in-Ok-4.ensures)
 
-pub returns-in-Refused : goal.returns-in-Refused
-returns-in-Refused c = puts_same c.put_refusal.ensures (refused_line _ _ _ _ _ _ c.in-Refused.is)
+pub returns-in-Err : goal.returns-in-Err
+returns-in-Err c = puts_same c.put_refusal.ensures (refused_line _ _ c.in-Err.is)
