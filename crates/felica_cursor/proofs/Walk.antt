@@ -12,7 +12,7 @@ use Rattle.felica_format.specs.Read.{counted, read_body}
 use Rattle.felica_format.specs.Reasons.{number_of}
 use Rattle.felica_format.specs.declared.error.Reason.{Reason}
 use Rattle.felica_command.specs.Types.{property_of, property_index}
-use Rattle.felica_command.specs.Meaning.{part, no_part, codes_at, formed_at, bytes_at, fields, fields_of, command_is}
+use Rattle.felica_command.specs.Meaning.{part, no_part, codes_at, formed_at, bytes_at, fields, fields_of, bare as bare_parsed}
 use Rattle.felica_command.specs.Places.{first_at, idm_size, selector_size, codes_part, codes_size, elements_size, blocks_part, blocks_size, data_part, package_part, places, layout_places}
 use Rattle.felica_command.specs.declared.types.ContainerProperty.{ContainerProperty}
 use Rattle.felica_command.specs.declared.command.Part.{Part}
@@ -178,55 +178,56 @@ module _ (from : Cursor) {code : ℕ} {l : Layout} (its : HasLayout code l) wher
   turned_down : (why : Reason) (r : Result Parsed Reason) → read_body code l (rest from) ≡ refuse (number_of why) → IsErrAnd r (λ y. y ≡ why) → BodyRead from code r
   turned_down why r read e = let p = err_from_is_err_and r e in rw (p.1, p.2, its.is, read) (refl, refl, tt)
 
-  pub idm_refused : {T : Type 0} {meant : T → List ℕ} {P : T → Cursor → Type 0} {why : Reason} (r : Result Parsed Reason)
-      → Takes meant (read_idm l.idm (rest from)) P (Err why) → IsErrAnd r (λ y. y ≡ why) → BodyRead from code r
+  pub idm_refused : {T : Type 0} {meant : T → List ℕ} {P : T → Cursor → Type 0} {why : Reason}
+      → Takes meant (read_idm l.idm (rest from)) P (Err why) → (r : Result Parsed Reason) → IsErrAnd r (λ y. y ≡ why) → BodyRead from code r
   unfolding read_body bind
-  idm_refused {why = why} r t e = turned_down why r (rw t.read refl) e
+  idm_refused {why = why} t r e = turned_down why r (rw t.read refl) e
 
   module _ {idm : List ℕ} {c₁ : Cursor} (a : IdmRead l.idm from idm c₁) where
-    pub selector_refused : {T : Type 0} {meant : T → ℕ} {P : T → Cursor → Type 0} {why : Reason} (r : Result Parsed Reason)
-        → Takes meant (read_selector l.selector (rest c₁)) P (Err why) → IsErrAnd r (λ y. y ≡ why) → BodyRead from code r
+    pub selector_refused : {T : Type 0} {meant : T → ℕ} {P : T → Cursor → Type 0} {why : Reason}
+        → Takes meant (read_selector l.selector (rest c₁)) P (Err why) → (r : Result Parsed Reason) → IsErrAnd r (λ y. y ≡ why) → BodyRead from code r
     unfolding read_body bind
-    selector_refused {why = why} r t e = turned_down why r (rw (a.read, t.read) refl) e
+    selector_refused {why = why} t r e = turned_down why r (rw (a.read, t.read) refl) e
 
     module _ {byte : ℕ} {c₂ : Cursor} (b : SelectorRead l.selector c₁ byte c₂) where
-      pub first_refused : {T : Type 0} {meant : T → List ℕ} {P : T → Cursor → Type 0} {why : Reason} (r : Result Parsed Reason)
-          → Takes meant (read_codes 9 10 l.first (rest c₂)) P (Err why) → IsErrAnd r (λ y. y ≡ why) → BodyRead from code r
+      pub first_refused : {T : Type 0} {meant : T → List ℕ} {P : T → Cursor → Type 0} {why : Reason}
+          → Takes meant (read_codes 9 10 l.first (rest c₂)) P (Err why) → (r : Result Parsed Reason) → IsErrAnd r (λ y. y ≡ why) → BodyRead from code r
       unfolding read_body bind
-      first_refused {why = why} r t e = turned_down why r (rw (a.read, b.read, t.read) refl) e
+      first_refused {why = why} t r e = turned_down why r (rw (a.read, b.read, t.read) refl) e
 
       module _ {f : Part} {c₃ : Cursor} (c : CodesRead 9 10 l.first c₂ f c₃) where
-        pub second_refused : {T : Type 0} {meant : T → List ℕ} {P : T → Cursor → Type 0} {why : Reason} (r : Result Parsed Reason)
-            → Takes meant (read_codes 11 12 l.second (rest c₃)) P (Err why) → IsErrAnd r (λ y. y ≡ why) → BodyRead from code r
+        pub second_refused : {T : Type 0} {meant : T → List ℕ} {P : T → Cursor → Type 0} {why : Reason}
+            → Takes meant (read_codes 11 12 l.second (rest c₃)) P (Err why) → (r : Result Parsed Reason) → IsErrAnd r (λ y. y ≡ why) → BodyRead from code r
         unfolding read_body bind
-        second_refused {why = why} r t e = turned_down why r (rw (a.read, b.read, c.read, t.read) refl) e
+        second_refused {why = why} t r e = turned_down why r (rw (a.read, b.read, c.read, t.read) refl) e
 
         module _ {g : Part} {c₄ : Cursor} (d : CodesRead 11 12 l.second c₃ g c₄) where
-          pub blocks_refused : {T : Type 0} {meant : T → List Formed} {P : T → Cursor → Type 0} {why : Reason} (r : Result Parsed Reason)
+          pub blocks_refused : {T : Type 0} {meant : T → List Formed} {P : T → Cursor → Type 0} {why : Reason}
               → Takes meant (read_elements (if_codes l.first 11 9) (if_codes l.first 12 10) l.elements (rest c₄)) P (Err why)
-              → IsErrAnd r (λ y. y ≡ why) → BodyRead from code r
+              → (r : Result Parsed Reason) → IsErrAnd r (λ y. y ≡ why) → BodyRead from code r
           unfolding read_body bind
-          blocks_refused {why = why} r t e = turned_down why r (rw (a.read, b.read, c.read, d.read, t.read) refl) e
+          blocks_refused {why = why} t r e = turned_down why r (rw (a.read, b.read, c.read, d.read, t.read) refl) e
 
           module _ {list : Part} {long : ℕ} {c₅ : Cursor} (h : BlocksRead (if_codes l.first 11 9) (if_codes l.first 12 10) l.elements c₄ list long c₅) where
-            pub data_refused : {T : Type 0} {meant : T → List ℕ} {P : T → Cursor → Type 0} {why : Reason} (r : Result Parsed Reason)
-                → Takes meant (read_data l.block_data list.count (rest c₅)) P (Err why) → IsErrAnd r (λ y. y ≡ why) → BodyRead from code r
+            pub data_refused : {T : Type 0} {meant : T → List ℕ} {P : T → Cursor → Type 0} {why : Reason}
+                → Takes meant (read_data l.block_data list.count (rest c₅)) P (Err why) → (r : Result Parsed Reason) → IsErrAnd r (λ y. y ≡ why) → BodyRead from code r
             unfolding read_body bind
-            data_refused {why = why} r t e = turned_down why r (rw (a.read, b.read, c.read, d.read, h.read, h.count, t.read) refl) e
+            data_refused {why = why} t r e = turned_down why r (rw (a.read, b.read, c.read, d.read, h.read, h.count, t.read) refl) e
 
             module _ {p : Part} {c₆ : Cursor} (k : DataRead l.block_data list.count c₅ p c₆) where
-              pub ending_refused : {T : Type 0} {meant : T → EndFields} {P : T → Cursor → Type 0} {why : Reason} (r : Result Parsed Reason)
-                  → Takes meant (read_ending l.ending l.behind (rest c₆)) P (Err why) → IsErrAnd r (λ y. y ≡ why) → BodyRead from code r
+              pub ending_refused : {T : Type 0} {meant : T → EndFields} {P : T → Cursor → Type 0} {why : Reason}
+                  → Takes meant (read_ending l.ending l.behind (rest c₆)) P (Err why) → (r : Result Parsed Reason) → IsErrAnd r (λ y. y ≡ why) → BodyRead from code r
               unfolding read_body bind
-              ending_refused {why = why} r t e = turned_down why r (rw (a.read, b.read, c.read, d.read, h.read, h.count, k.read, t.read) refl) e
+              ending_refused {why = why} t r e = turned_down why r (rw (a.read, b.read, c.read, d.read, h.read, h.count, k.read, t.read) refl) e
 
               module _ {values : EndFields} {q : Part} (m : EndRead l.ending l.behind c₆ values q) where
-                pub accepted : (command : FelicaStandardCommand) {property : ContainerProperty}
+                pub accepted : {plain : Parsed} {command : FelicaStandardCommand} {property : ContainerProperty}
+                    → plain ≡ bare_parsed command
                     → fields_of command ≡ fields code byte f g list p values.number values.index values.option values.choice q property
                     → property ≡ property_of (property_index property)
                     → BodyRead from code (Ok (record { command = command; idm = idm; challenge = values.challenge; long = long }))
                 unfolding read_body bind layout_places
-                accepted command said canonical =
+                accepted its_command said canonical =
                     let s₂ : c₂.payload ≡ from.payload = ap (λ (x : Cursor). x.payload) b.placed ∙ ap (λ (x : Cursor). x.payload) a.placed in
                     let s₃ : c₃.payload ≡ from.payload = ap (λ (x : Cursor). x.payload) c.placed ∙ s₂ in
                     let s₄ : c₄.payload ≡ from.payload = ap (λ (x : Cursor). x.payload) d.placed ∙ s₃ in
