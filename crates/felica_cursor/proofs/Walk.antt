@@ -1,6 +1,6 @@
 -- A walk along a body: what each part of its layout gave, one that the layout lacks among them, and the result that these make.
 -- Assumes nothing.
-use Rattle.std.proofs.Common.{◌≡◌, ℕ, ◌+◌, ◌*◌, true, false, Bool, List, [], map, length, drop, Result, Ok, Err, IsErrAnd, refl, sym, ap, ◌∙◌, arith, add-zero}
+use Rattle.std.proofs.Common.{◌≡◌, ℕ, ◌+◌, ◌*◌, true, false, Bool, List, [], map, length, drop, Result, Ok, Err, Some, IsErrAnd, MatchResult, refl, sym, ap, ◌∙◌, arith, add-zero}
 use Rattle.std.proofs.lemmas.Bool.{le-ltb}
 use Rattle.std.proofs.lemmas.List.{length-map}
 use Rattle.std.proofs.lemmas.Result.{err_from_is_err_and}
@@ -12,17 +12,18 @@ use Rattle.felica_format.specs.Read.{counted, read_body}
 use Rattle.felica_format.specs.Reasons.{number_of}
 use Rattle.felica_format.specs.declared.error.Reason.{Reason}
 use Rattle.felica_command.specs.Types.{property_of, property_index}
-use Rattle.felica_command.specs.Meaning.{part, no_part, codes_at, formed_at, bytes_at, fields, fields_of, bare as bare_parsed}
+use Rattle.felica_command.specs.Meaning.{part, no_part, codes_at, formed_at, bytes_at, fields, fields_of, refusal, bare as bare_parsed}
 use Rattle.felica_command.specs.Places.{first_at, idm_size, selector_size, codes_part, codes_size, elements_size, blocks_part, blocks_size, data_part, package_part, places, layout_places}
 use Rattle.felica_command.specs.declared.types.ContainerProperty.{ContainerProperty}
 use Rattle.felica_command.specs.declared.command.Part.{Part}
 use Rattle.felica_command.specs.declared.command.FelicaStandardCommand.{FelicaStandardCommand}
 use Rattle.felica_command.specs.declared.command.Parsed.{Parsed}
+use Rattle.felica_command.specs.declared.command.Refusal.{Refusal}
 use Rattle.felica_command.proofs.Inside.{words_of_length}
 use Rattle.felica_command.proofs.Spots.{places_eq, part_eq, data_whole, package_whole}
 use Rattle.felica_cursor.specs.Taken.{rest, moved, itself, Takes, To}
 use Rattle.felica_cursor.specs.Steps.{elements_in, CodesFrom, ElementsFrom, DataFrom}
-use Rattle.felica_cursor.specs.Body.{BodyRead}
+use Rattle.felica_cursor.specs.Body.{BodyRead, result_of}
 use Rattle.felica_cursor.specs.declared.cursor.Blocks.{Blocks}
 use Rattle.felica_cursor.specs.declared.cursor.Cursor.{Cursor}
 
@@ -259,3 +260,9 @@ module _ (from : Cursor) {code : ℕ} {l : Layout} (its : HasLayout code l) wher
                         (k.spot ∙ rw (n₅, s₄, n₄) refl)
                         (m.spot ∙ rw (n₆, s₄, n₄) refl)),
                       canonical)
+
+-- a refusal of a body gets the code, where the function that maps it gives that
+pub with_code : {Q : Reason → Refusal → Type 0} (code : ℕ) (r : Result Parsed Reason) (t : Result Parsed Refusal)
+    → ((why : Reason) (y : Refusal) → Q why y → y ≡ refusal why (Some code)) → MatchResult r (λ p. t ≡ Ok p) (λ why. IsErrAnd t (Q why)) → t ≡ result_of code r
+with_code code (Ok p) t gives h = h
+with_code code (Err why) t gives h = let p = err_from_is_err_and t h in p.1 ∙ ap (λ y. Err y) (gives why p.0 p.2)

@@ -2,10 +2,7 @@
 -- Assumes nothing.
 use Rattle.std.specs.Prelude.{ℕ, ◌≡◌, ◌⊎◌}
 use Rattle.felica_format.specs.Layout.{class_of}
-use Rattle.felica_format.specs.declared.classes.Class.{Class}
-use Rattle.felica_format.specs.declared.classes.Class.TheVariants.{Plain, Secure, Unknown}
-use Rattle.felica_format.specs.declared.error.Reason.{Reason}
-use Rattle.felica_format.specs.declared.error.Reason.TheVariants.{SecureCode, UnknownCode}
+use Rattle.felica_format.specs.declared.classes.Class.TheVariants.{Plain}
 
 abbrev pub CodeListCode : ℕ → Type 0
 CodeListCode code = (code ≡ 0x02) ⊎ ((code ≡ 0x0E) ⊎ ((code ≡ 0x1E) ⊎ (code ≡ 0x32)))
@@ -21,9 +18,3 @@ ReservedCode code = (code ≡ 0x22) ⊎ ((code ≡ 0x38) ⊎ ((code ≡ 0x3C) �
 
 abbrev pub NotPlain : ℕ → Type 0
 NotPlain code = class_of code ≡ Plain → ⊥
-
--- why a code of this class is refused in a plain payload
-abbrev pub refused_code : Class → Reason
-refused_code Plain = UnknownCode
-refused_code Secure = SecureCode
-refused_code Unknown = UnknownCode

@@ -1,14 +1,15 @@
 // The port of command/parse.rs: a payload. Frames are felica_frame's, secure codes felica_secure's.
 #![tactic(auto)]
 
-ghost use Rattle.std.specs.Prelude.{◌≡◌};
+ghost use Rattle.std.specs.Prelude.{◌≡◌, ℕ, List, Some};
 ghost use Rattle.felica_format.specs.Layout.{class_of};
-ghost use Rattle.felica_format.specs.Read.{read_payload, read_plain_as};
+ghost use Rattle.felica_format.specs.Read.{read_payload, read_plain_as, refused};
+ghost use Rattle.felica_format.specs.Reasons.{number_of};
 ghost use Rattle.felica_command.specs.Meaning.{meaning, Canonical};
 ghost use Rattle.felica_command.specs.Places.{places_of, read_places, Inside, Account};
 ghost use Rattle.felica_cursor.specs.Taken.{rest};
 ghost use Rattle.felica_cursor.specs.Body.{result_of};
-ghost use Rattle.felica_parse.specs.Codes.{NotPlain, refused_code};
+ghost use Rattle.felica_parse.specs.Codes.{NotPlain};
 
 mod kinds;
 mod plain;
@@ -79,7 +80,7 @@ fn parse_command(command_code: u8, start: Cursor) -> Result<Parsed, Reason>
 // Why a code that is no plain one is refused in a plain payload.
 fn not_plain(command_code: u8) -> Reason
     requires { NotPlain command_code }
-    ensures { result ≡ refused_code (class_of command_code) }
+    ensures { (s : List ℕ) → read_plain_as (class_of command_code) command_code s ≡ refused (number_of result) (Some command_code) }
 {
     match class_of(command_code) {
         Class::Secure => Reason::SecureCode,

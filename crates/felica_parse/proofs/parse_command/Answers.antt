@@ -3,6 +3,8 @@
 use Rattle.std.proofs.Common.{refl, arith}
 use Rattle.std.proofs.lemmas.Grind.{common_steps}
 use Rattle.felica_format.specs.Layout.{class_of, has, plain_rows}
+use Rattle.felica_command.proofs.Settled.{refusal_account}
+use Rattle.felica_cursor.specs.Taken.{rest}
 use Rattle.felica_parse.proofs.Entry.{plain_read, code_list_plain, idm_alone_plain, word_plain, reserved_plain}
 use Rattle.felica_parse.proofs.parse_command.Goals as goal
 
@@ -69,3 +71,6 @@ returns-in-10 c = plain_read c.args.start _ _ (word_plain _ c.in-10.is) c.parse_
 
 pub returns-in-34 : goal.returns-in-34
 returns-in-34 c = plain_read c.args.start _ _ (reserved_plain _ c.in-34.is) c.parse_idm_and_reserved.ensures
+
+pub returns-in_default : goal.returns-in_default
+returns-in_default c = refusal_account c.args.start.payload.now c.args.start.at c.not_plain.result _ _ _ refl (c.not_plain.ensures (rest c.args.start))
