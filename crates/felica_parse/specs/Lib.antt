@@ -1,3 +1,2 @@
-pub mod Bare
 -- The plain codes that share a layout.
 pub mod Codes

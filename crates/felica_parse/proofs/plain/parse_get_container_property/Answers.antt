@@ -1,35 +1,18 @@
--- `parse_get_container_property` meets its contract: a walk along its layout, by what each step says.
+-- `parse_get_container_property` meets its contract: each part of its layout is read by a step, or lacking.
 -- Assumes nothing.
-use mathlib.Core.Path.{refl, sym, ap, ◌∙◌, subst}
-use lib.ListN.{drop}
-use Rattle.felica_format.specs.Basic.{zeros}
-use Rattle.felica_format.specs.Read.{words_of, read_each}
-use Rattle.felica_command.specs.Places.{layout_places}
-use Rattle.felica_cursor.specs.Answers.{word_ground}
+use Rattle.std.proofs.Common.{refl}
+use Rattle.felica_cursor.proofs.Walk.{no_idm, no_selector_read, no_codes_read, no_blocks, no_data, ending, ending_refused, accepted}
 use Rattle.felica_command.proofs.Typed.{index_of_property, property_canonical}
-use Rattle.felica_command.specs.declared.command.FelicaStandardCommand.TheVariants.{GetContainerProperty}
-use Rattle.felica_command.specs.declared.command.Parsed.{Parsed}
-use Rattle.felica_cursor.specs.Body.{BodyRead}
-use Rattle.felica_cursor.proofs.Walk.{on, stop, body, no_idm, no_selector_read, no_codes_read, no_elements, no_data, no_package, refused_at, accepted_at}
-use Rattle.felica_cursor.proofs.Walk.{word_step}
 use Rattle.felica_parse.proofs.Layouts.{layout_2e}
 use Rattle.felica_parse.proofs.plain.parse_get_container_property.Goals as goal
 
-pub returns-in_default : goal.returns-in_default
-returns-in_default c =
-    let s = c.args.payload.now in
-    let ending = c.take_word-taken.ensures.0 ∙ ap (word_step s) c.in_default.is in
-    refused_at s 1 0x2E _ _ _ _ layout_2e
-    (body 0x2E _ (drop 1 s) ∙ on _ (no_idm _) (on _ (no_selector_read _) (on _ (no_codes_read _ _ _) (on _ (no_codes_read _ _ _) (on _ (no_elements _ _ _) (on _ (no_data _ _) (stop _ ending)))))))
-    (c.ground.ensures ∙ ap word_ground c.in_default.is) c.refused.ensures
+pub returns-in_err-index : goal.returns-in_err-index
+returns-in_err-index c =
+    ending_refused c.args.start layout_2e no_idm no_selector_read no_codes_read no_codes_read no_blocks no_data
+    c.in_err-index.ensures _ c.from_residual.ensures.1
 
 pub returns : goal.returns
-unfolding layout_places words_of read_each
 returns c =
-    let s = c.args.payload.now in
-    let ending = c.take_word-taken.ensures.0 ∙ ap (word_step s) c.in-Word.is in
-    subst (λ (r : Parsed). BodyRead s 1 0x2E r) (sym c.without_idm.ensures)
-    (accepted_at s 1 0x2E _ (GetContainerProperty c.from_index-property.result) _ (zeros 8) (zeros 16) 0 _ _ _ refl layout_2e refl
-    (body 0x2E _ (drop 1 s) ∙ on _ (no_idm _) (on _ (no_selector_read _) (on _ (no_codes_read _ _ _) (on _ (no_codes_read _ _ _) (on _ (no_elements _ _ _) (on _ (no_data _ _) (on _ ending (on _ (no_package _) refl))))))))
-    (rw (c.from_index-property.ensures, index_of_property) refl) refl
-    refl (property_canonical c.in-Word.index _ c.from_index-property.ensures))
+    rw c.bare.ensures
+    (accepted c.args.start layout_2e no_idm no_selector_read no_codes_read no_codes_read no_blocks no_data (ending c.in_ok-index.ensures)
+    c.bare.ensures (rw (c.from_index-property.ensures, index_of_property) refl) (property_canonical c.in_ok-index.index _ c.from_index-property.ensures))

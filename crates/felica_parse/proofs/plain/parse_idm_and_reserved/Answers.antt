@@ -1,40 +1,20 @@
--- `parse_idm_and_reserved` meets its contract: a walk along its layout, by what each step says.
+-- `parse_idm_and_reserved` meets its contract: each part of its layout is read by a step, or lacking.
 -- Assumes nothing.
-use mathlib.Core.Path.{refl, ap, ◌∙◌}
-use lib.ListN.{drop}
-use Rattle.felica_format.specs.Basic.{zeros}
-use Rattle.felica_format.specs.Read.{words_of, read_each}
-use Rattle.felica_command.specs.Places.{layout_places}
-use Rattle.felica_cursor.specs.Answers.{moved_ground}
-use Rattle.felica_cursor.proofs.Walk.{on, stop, body, no_selector_read, no_codes_read, no_elements, no_data, no_package, refused_at, accepted_at}
-use Rattle.felica_cursor.proofs.Walk.{idm_step, end_step}
+use Rattle.std.proofs.Common.{refl}
+use Rattle.felica_cursor.proofs.Walk.{idm, no_selector_read, no_codes_read, no_blocks, no_data, ending, idm_refused, ending_refused, accepted}
 use Rattle.felica_parse.proofs.Layouts.{reserved_layout}
 use Rattle.felica_parse.proofs.plain.parse_idm_and_reserved.Goals as goal
 
-pub returns-in_default : goal.returns-in_default
-returns-in_default c =
-    let s = c.args.payload.now in
-    let idm = c.take_idm-first.ensures.0 ∙ ap (idm_step s c.take_idm-first.result.idm) c.in_default.is in
-    refused_at s 1 c.args.command_code _ _ _ _ (reserved_layout c.args.command_code c.requires)
-    (body c.args.command_code _ (drop 1 s) ∙ stop _ idm)
-    (c.ground.ensures ∙ ap moved_ground c.in_default.is) c.refused.ensures
+pub returns-in_err-idm : goal.returns-in_err-idm
+returns-in_err-idm c = idm_refused c.args.start (reserved_layout _ c.requires) c.in_err-idm.ensures _ c.from_residual.ensures.1
 
-pub returns-in_default-end : goal.returns-in_default-end
-returns-in_default-end c =
-    let s = c.args.payload.now in
-    let idm = c.take_idm-first.ensures.0 ∙ ap (idm_step s c.take_idm-first.result.idm) c.in-On.is in
-    let ending = c.take_reserved-end.ensures.0 ∙ ap (end_step s (zeros 16)) c.in_default-end.is in
-    refused_at s 1 c.args.command_code _ _ _ _ (reserved_layout c.args.command_code c.requires)
-    (body c.args.command_code _ (drop 1 s) ∙ on _ idm (on _ (no_selector_read _) (on _ (no_codes_read _ _ _) (on _ (no_codes_read _ _ _) (on _ (no_elements _ _ _) (on _ (no_data _ _) (stop _ ending)))))))
-    (c.ground-in_default-end.ensures ∙ ap moved_ground c.in_default-end.is) c.refused-in_default-end.ensures
+pub returns-in_err-take_reserved : goal.returns-in_err-take_reserved
+returns-in_err-take_reserved c =
+    ending_refused _ (reserved_layout _ c.requires) (idm c.in_ok-idm.ensures) no_selector_read no_codes_read no_codes_read no_blocks no_data
+    c.in_err-take_reserved.ensures _ c.from_residual-in_err-take_reserved.ensures.1
 
 pub returns : goal.returns
-unfolding layout_places words_of read_each
 returns c =
-    let s = c.args.payload.now in
-    let idm = c.take_idm-first.ensures.0 ∙ ap (idm_step s c.take_idm-first.result.idm) c.in-On.is in
-    let ending = c.take_reserved-end.ensures.0 ∙ ap (end_step s (zeros 16)) c.in-On-end.is in
-    accepted_at s 1 c.args.command_code _ c.reserved_kind-kind.result _ c.take_idm-first.result.idm (zeros 16) 0 _ _ _ refl (reserved_layout c.args.command_code c.requires) c.reserved_kind-kind.ensures
-    (body c.args.command_code _ (drop 1 s) ∙ on _ idm (on _ (no_selector_read _) (on _ (no_codes_read _ _ _) (on _ (no_codes_read _ _ _) (on _ (no_elements _ _ _) (on _ (no_data _ _) (on _ ending (on _ (no_package _) refl))))))))
-    refl refl
-    refl refl
+    rw c.bare.ensures
+    (accepted _ (reserved_layout _ c.requires) (idm c.in_ok-idm.ensures) no_selector_read no_codes_read no_codes_read no_blocks no_data (ending c.in_ok-take_reserved.ensures)
+    c.bare.ensures c.reserved_kind.ensures refl)

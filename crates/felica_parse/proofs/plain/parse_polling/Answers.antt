@@ -1,34 +1,17 @@
--- `parse_polling` meets its contract: a walk along its layout, by what each step says.
+-- `parse_polling` meets its contract: each part of its layout is read by a step, or lacking.
 -- Assumes nothing.
-use mathlib.Core.Path.{refl, sym, ap, ◌∙◌, subst}
-use lib.ListN.{drop}
-use Rattle.felica_format.specs.Basic.{zeros}
-use Rattle.felica_format.specs.Read.{words_of, read_each}
-use Rattle.felica_command.specs.Places.{layout_places}
-use Rattle.felica_cursor.specs.Answers.{polling_ground}
-use Rattle.felica_command.specs.declared.command.FelicaStandardCommand.TheVariants.{Polling}
-use Rattle.felica_command.specs.declared.command.Parsed.{Parsed}
-use Rattle.felica_cursor.specs.Body.{BodyRead}
-use Rattle.felica_cursor.proofs.Walk.{on, stop, body, no_idm, no_selector_read, no_codes_read, no_elements, no_data, no_package, refused_at, accepted_at}
-use Rattle.felica_cursor.proofs.Walk.{polling_step}
+use Rattle.std.proofs.Common.{refl}
+use Rattle.felica_cursor.proofs.Walk.{no_idm, no_selector_read, no_codes_read, no_blocks, no_data, ending, ending_refused, accepted}
 use Rattle.felica_parse.proofs.Layouts.{layout_00}
 use Rattle.felica_parse.proofs.plain.parse_polling.Goals as goal
 
-pub returns-in_default : goal.returns-in_default
-returns-in_default c =
-    let s = c.args.payload.now in
-    let ending = c.take_polling-taken.ensures.0 ∙ ap (polling_step s) c.in_default.is in
-    refused_at s 1 0x00 _ _ _ _ layout_00
-    (body 0x00 _ (drop 1 s) ∙ on _ (no_idm _) (on _ (no_selector_read _) (on _ (no_codes_read _ _ _) (on _ (no_codes_read _ _ _) (on _ (no_elements _ _ _) (on _ (no_data _ _) (stop _ ending)))))))
-    (c.ground.ensures ∙ ap polling_ground c.in_default.is) c.refused.ensures
+pub returns-in_err-polling : goal.returns-in_err-polling
+returns-in_err-polling c =
+    ending_refused c.args.start layout_00 no_idm no_selector_read no_codes_read no_codes_read no_blocks no_data
+    c.in_err-polling.ensures _ c.from_residual.ensures.1
 
 pub returns : goal.returns
-unfolding layout_places words_of read_each
 returns c =
-    let s = c.args.payload.now in
-    let ending = c.take_polling-taken.ensures.0 ∙ ap (polling_step s) c.in-Parameters.is in
-    subst (λ (r : Parsed). BodyRead s 1 0x00 r) (sym c.without_idm.ensures)
-    (accepted_at s 1 0x00 _ (Polling c.in-Parameters.system_code c.in-Parameters.request_code c.in-Parameters.time_slots) _ (zeros 8) (zeros 16) 0 _ _ _ refl layout_00 refl
-    (body 0x00 _ (drop 1 s) ∙ on _ (no_idm _) (on _ (no_selector_read _) (on _ (no_codes_read _ _ _) (on _ (no_codes_read _ _ _) (on _ (no_elements _ _ _) (on _ (no_data _ _) (on _ ending (on _ (no_package _) refl))))))))
-    refl refl
-    refl refl)
+    rw c.bare.ensures
+    (accepted c.args.start layout_00 no_idm no_selector_read no_codes_read no_codes_read no_blocks no_data (ending c.in_ok-polling.ensures)
+    c.bare.ensures refl refl)

@@ -1,41 +1,20 @@
--- `parse_set_parameter` meets its contract: a walk along its layout, by what each step says.
+-- `parse_set_parameter` meets its contract: each part of its layout is read by a step, or lacking.
 -- Assumes nothing.
-use mathlib.Core.Path.{refl, ap, ◌∙◌}
-use lib.ListN.{drop}
-use Rattle.felica_format.specs.Basic.{zeros}
-use Rattle.felica_format.specs.Read.{words_of, read_each}
-use Rattle.felica_command.specs.Places.{layout_places}
-use Rattle.felica_cursor.specs.Answers.{moved_ground, parameter_ground}
-use Rattle.felica_command.specs.declared.command.FelicaStandardCommand.TheVariants.{SetParameter}
-use Rattle.felica_cursor.proofs.Walk.{on, stop, body, no_selector_read, no_codes_read, no_elements, no_data, no_package, refused_at, accepted_at}
-use Rattle.felica_cursor.proofs.Walk.{idm_step, parameter_step}
+use Rattle.std.proofs.Common.{refl}
+use Rattle.felica_cursor.proofs.Walk.{idm, no_selector_read, no_codes_read, no_blocks, no_data, ending, idm_refused, ending_refused, accepted}
 use Rattle.felica_parse.proofs.Layouts.{layout_20}
 use Rattle.felica_parse.proofs.plain.parse_set_parameter.Goals as goal
 
-pub returns-in_default : goal.returns-in_default
-returns-in_default c =
-    let s = c.args.payload.now in
-    let idm = c.take_idm-first.ensures.0 ∙ ap (idm_step s c.take_idm-first.result.idm) c.in_default.is in
-    refused_at s 1 0x20 _ _ _ _ layout_20
-    (body 0x20 _ (drop 1 s) ∙ stop _ idm)
-    (c.ground.ensures ∙ ap moved_ground c.in_default.is) c.refused.ensures
+pub returns-in_err-idm : goal.returns-in_err-idm
+returns-in_err-idm c = idm_refused c.args.start layout_20 c.in_err-idm.ensures _ c.from_residual.ensures.1
 
-pub returns-in_default-taken : goal.returns-in_default-taken
-returns-in_default-taken c =
-    let s = c.args.payload.now in
-    let idm = c.take_idm-first.ensures.0 ∙ ap (idm_step s c.take_idm-first.result.idm) c.in-On.is in
-    let ending = c.take_parameter-taken.ensures.0 ∙ ap (parameter_step s) c.in_default-taken.is in
-    refused_at s 1 0x20 _ _ _ _ layout_20
-    (body 0x20 _ (drop 1 s) ∙ on _ idm (on _ (no_selector_read _) (on _ (no_codes_read _ _ _) (on _ (no_codes_read _ _ _) (on _ (no_elements _ _ _) (on _ (no_data _ _) (stop _ ending)))))))
-    (c.ground-in_default-taken.ensures ∙ ap parameter_ground c.in_default-taken.is) c.refused-in_default-taken.ensures
+pub returns-in_err-parameter : goal.returns-in_err-parameter
+returns-in_err-parameter c =
+    ending_refused _ layout_20 (idm c.in_ok-idm.ensures) no_selector_read no_codes_read no_codes_read no_blocks no_data
+    c.in_err-parameter.ensures _ c.from_residual-in_err-parameter.ensures.1
 
 pub returns : goal.returns
-unfolding layout_places words_of read_each
 returns c =
-    let s = c.args.payload.now in
-    let idm = c.take_idm-first.ensures.0 ∙ ap (idm_step s c.take_idm-first.result.idm) c.in-On.is in
-    let ending = c.take_parameter-taken.ensures.0 ∙ ap (parameter_step s) c.in-Types.is in
-    accepted_at s 1 0x20 _ (SetParameter c.in-Types.encryption_type c.in-Types.packet_type) _ c.take_idm-first.result.idm (zeros 16) 0 _ _ _ refl layout_20 refl
-    (body 0x20 _ (drop 1 s) ∙ on _ idm (on _ (no_selector_read _) (on _ (no_codes_read _ _ _) (on _ (no_codes_read _ _ _) (on _ (no_elements _ _ _) (on _ (no_data _ _) (on _ ending (on _ (no_package _) refl))))))))
-    refl refl
-    refl refl
+    rw c.bare.ensures
+    (accepted _ layout_20 (idm c.in_ok-idm.ensures) no_selector_read no_codes_read no_codes_read no_blocks no_data (ending c.in_ok-parameter.ensures)
+    c.bare.ensures refl refl)
