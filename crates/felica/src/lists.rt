@@ -2,7 +2,7 @@
 ghost use Rattle.std.specs.Prelude.{◌≡◌, ◌≤◌, length};
 ghost use Rattle.felica_command.specs.Meaning.{meaning};
 ghost use Rattle.felica_command.specs.Places.{places_of, Inside};
-ghost use Rattle.felica_put.specs.Put.{buffer, put};
+ghost use Rattle.felica_put.specs.Output.{Puts};
 ghost use Rattle.felica_lists.specs.Lists.{buffers, outcome, listed};
 ghost use Rattle.felica_calls.specs.Sizes.{Lent};
 ghost use Rattle.felica.specs.Source.{reading_of, payload_in};
@@ -13,16 +13,11 @@ use felica_calls::sizes::{MAX_LENT, Sizes};
 use felica_calls::source::Source;
 use felica_command::command::Parsed;
 use felica_lists::{list_frame, list_payload, list_secure_payload};
+use felica_put::Output;
 
-pub(crate) fn answer_list(
-    source: Source,
-    bytes: &[u8],
-    sizes: Sizes,
-    out: &mut [u8],
-    at: usize,
-) -> usize
+pub(crate) fn answer_list(source: Source, bytes: &[u8], sizes: Sizes, out: &mut Output<u8>)
     requires { Lent sizes }
-    ensures { buffer out.new result ≡ put (buffer out.old at) (list_answer (reading_of source bytes.now) sizes) }
+    ensures { Puts out.old out.new (list_answer (reading_of source bytes.now) sizes) }
 {
     let mut first = [0u16; MAX_LENT];
     let mut second = [0u16; MAX_LENT];
@@ -39,8 +34,7 @@ pub(crate) fn answer_list(
         &mut places,
         &mut modes,
         out,
-        at,
-    )
+    );
 }
 
 // The same, in room that is lent for the buffers.
@@ -53,11 +47,10 @@ fn answer_from(
     numbers: &mut [u16],
     places: &mut [u8],
     modes: &mut [u8],
-    out: &mut [u8],
-    at: usize,
-) -> usize
+    out: &mut Output<u8>,
+)
     requires { (sizes.first ≤ length first.old) × (sizes.second ≤ length second.old) × (sizes.numbers ≤ length numbers.old) × (sizes.places ≤ length places.old) × (sizes.modes ≤ length modes.old) }
-    ensures { buffer out.new result ≡ put (buffer out.old at) (list_answer (reading_of source bytes.now) sizes) }
+    ensures { Puts out.old out.new (list_answer (reading_of source bytes.now) sizes) }
 {
     let first_end = sizes.first;
     let second_end = sizes.second;
@@ -73,8 +66,7 @@ fn answer_from(
         &mut places[..places_end],
         &mut modes[..modes_end],
     );
-    let answer = parsed.answer;
-    put_listed(out, at, answer, first, second, numbers, places, modes)
+    put_listed(out, parsed.answer, first, second, numbers, places, modes);
 }
 
 fn list(

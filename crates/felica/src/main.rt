@@ -1,8 +1,8 @@
 // Answers calls: reads them on standard input, a line each, and writes a line for each to standard output.
 #![tactic(auto)]
 
-ghost use Rattle.std.specs.Prelude.{◌≤◌, length, IfOk};
-ghost use Rattle.felica_put.specs.Output.{held as put_in};
+ghost use Rattle.std.specs.Prelude.{◌≡◌, ◌≤◌, ◌<◌, length, IfSome, IfOk};
+ghost use Rattle.felica_put.specs.Output.{held};
 ghost use Rattle.felica_stream.specs.Held.{IsWithin};
 ghost use Rattle.felica_calls.specs.Call.{read_call};
 ghost use Rattle.felica.specs.Answers.{Answered, LineAnswered};
@@ -15,7 +15,6 @@ use felica_calls::fault::{Fault, put_fault};
 use felica_calls::write::behind_code;
 use felica_put::Output;
 use felica_stream::{keep_rest, make_room, read_more};
-use felica_text::find::find;
 use felica_writing::answer_write;
 use lists::answer_list;
 use parse::{answer_long, answer_parse};
@@ -29,29 +28,32 @@ const MAX_CALL_BYTES: usize = 16384;
 const ANSWER_ROOM: usize = 33024;
 
 // An empty line is answered too, so that there is a line for each line.
-fn answer_call(line: &[u8], bytes: &mut [u8], out: &mut [u8], at: usize) -> usize
-    ensures { Answered line.now (read_call line.now bytes.old) (buffer out.old at) (buffer out.new result) }
+fn answer_call(line: &[u8], bytes: &mut [u8], out: &mut Output<u8>)
+    ensures same_reference { out.new.room.ghost_name ≡ out.old.room.ghost_name }
+    ensures answered { Answered line.now (read_call line.now bytes.old) (held out.old) (held out.new) }
 {
     match read_call(line, bytes) {
-        Ok(Call::Parse(source, count)) => answer_parse(source, &bytes[..count], out, at),
-        Ok(Call::Long(source, count)) => answer_long(source, &bytes[..count], out, at),
-        Ok(Call::List(source, count, sizes)) => {
-            answer_list(source, &bytes[..count], sizes, out, at)
-        }
-        Ok(Call::Write(size, code)) => answer_write(size, code, behind_code(line), out, at),
-        Err(fault) => {
-            let mut output = Output { room: out, len: at };
-            put_fault(&mut output, fault);
-            output.len
-        }
+        Ok(Call::Parse(source, count)) => answer_parse(source, &bytes[..count], out),
+        Ok(Call::Long(source, count)) => answer_long(source, &bytes[..count], out),
+        Ok(Call::List(source, count, sizes)) => answer_list(source, &bytes[..count], sizes, out),
+        Ok(Call::Write(size, code)) => answer_write(size, code, behind_code(line), out),
+        Err(fault) => put_fault(out, fault),
     }
 }
 
 fn answer_line(line: &[u8], bytes: &mut [u8], out: &mut Output<u8>)
-    ensures { LineAnswered line.now (read_call line.now bytes.old) (put_in out.old) (put_in out.new) }
+    ensures same_reference { out.new.room.ghost_name ≡ out.old.room.ghost_name }
+    ensures answered { LineAnswered line.now (read_call line.now bytes.old) (held out.old) (held out.new) }
 {
     answer_call(line, bytes, out);
     out.put(b'\n');
+}
+
+// Where the line feed of the first line stands, if it has one.
+fn line_end(text: &[u8]) -> Option<usize>
+    ensures { IfSome result (λ end. end < length text.now) }
+{
+    text.iter().position(|byte| *byte == b'\n')
 }
 
 // Answers the whole lines of `input`, and says how long the rest of it is.
@@ -66,7 +68,7 @@ fn answer_lines<W: Write>(
     ensures rest { IfOk result (λ rest. rest ≤ length input.now) }
 {
     let mut rest = input;
-    while let Some(end) = rest.iter().position(|byte| *byte == b'\n') {
+    while let Some(end) = line_end(rest) {
         make_room(writer, out, ANSWER_ROOM)?;
         answer_line(&rest[..end], bytes, out);
         rest = &rest[end + 1..];
@@ -84,11 +86,9 @@ fn skip_line<R: Read>(reader: &mut R, input: &mut [u8]) -> usize
         if more == 0 {
             return 0;
         }
-        let end = find(&input[..more], b'\n');
-        if end < more {
-            let from = end + 1;
-            keep_rest(input, from, more);
-            return more - from;
+        if let Some(end) = line_end(&input[..more]) {
+            keep_rest(input, end + 1, more);
+            return more - (end + 1);
         }
     }
     0

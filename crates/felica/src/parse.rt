@@ -2,7 +2,7 @@
 ghost use Rattle.std.specs.Prelude.{◌≡◌};
 ghost use Rattle.felica_command.specs.Places.{Account};
 ghost use Rattle.felica_command.specs.declared.command.Parsed.{Parsed};
-ghost use Rattle.felica_put.specs.Put.{buffer, put};
+ghost use Rattle.felica_put.specs.Output.{Puts};
 ghost use Rattle.felica_answers.specs.Answer.{line_of};
 ghost use Rattle.felica_answers.specs.Long.{long_line};
 ghost use Rattle.felica.specs.Source.{reading_of, payload_in, body_at};
@@ -13,23 +13,21 @@ use felica_calls::source::Source;
 use felica_command::command::Parsed;
 use felica_frame::{parse_frame, payload_of};
 use felica_parse::parse_payload;
+use felica_put::Output;
 use felica_secure::parse_secure_payload;
 
 // The line of the one result that the definitions allow.
-pub(crate) fn answer_parse(source: Source, bytes: &[u8], out: &mut [u8], at: usize) -> usize
-    ensures { (p : Parsed) × Account (payload_in source bytes.now) (body_at source) (reading_of source bytes.now) p × (buffer out.new result ≡ put (buffer out.old at) (line_of (payload_in source bytes.now) p)) }
+pub(crate) fn answer_parse(source: Source, bytes: &[u8], out: &mut Output<u8>)
+    ensures { (p : Parsed) × Account (payload_in source bytes.now) (body_at source) (reading_of source bytes.now) p × Puts out.old out.new (line_of (payload_in source bytes.now) p) }
 {
-    let parsed = parse(source, bytes);
-    let payload = payload_in(source, bytes);
-    put_answer(out, at, payload, parsed)
+    put_answer(out, payload_in(source, bytes), parse(source, bytes));
 }
 
 // The line that tells how many elements were long.
-pub(crate) fn answer_long(source: Source, bytes: &[u8], out: &mut [u8], at: usize) -> usize
-    ensures { buffer out.new result ≡ put (buffer out.old at) (long_line (reading_of source bytes.now)) }
+pub(crate) fn answer_long(source: Source, bytes: &[u8], out: &mut Output<u8>)
+    ensures { Puts out.old out.new (long_line (reading_of source bytes.now)) }
 {
-    let parsed = parse(source, bytes);
-    put_long(out, at, parsed)
+    put_long(out, parse(source, bytes));
 }
 
 fn parse(source: Source, bytes: &[u8]) -> Parsed
@@ -47,7 +45,6 @@ fn payload_in(source: Source, bytes: &[u8]) -> &[u8]
 {
     match source {
         Source::Frame => payload_of(bytes),
-        Source::Payload => bytes,
-        Source::Secure(_) => bytes,
+        Source::Payload | Source::Secure(_) => bytes,
     }
 }

@@ -1,10 +1,9 @@
 -- `felica::answer_call` answers what the line calls for.
 -- Assumes nothing.
-use Rattle.std.proofs.Common.{◌≡◌, ℕ, List, sym, ap, ◌∙◌, subst, rules, take, length}
-use Rattle.std.specs.Prelude.{Result, Ok, Err}
+use Rattle.std.proofs.Common.{◌≡◌, ℕ, List, sym, subst}
+use Rattle.std.specs.Prelude.{Result}
 use Rattle.std.proofs.lemmas.List.{length-take-le}
-use Rattle.felica_put.specs.Put.{Buffer, buffer, put}
-use Rattle.felica_calls.specs.Fault.{fault_text}
+use Rattle.felica_put.specs.Put.{Buffer}
 use Rattle.felica_calls.specs.Read.{Read, read}
 use Rattle.felica_calls.specs.declared.call.Call.{Call}
 use Rattle.felica_calls.specs.declared.fault.Fault.{Fault}
@@ -40,16 +39,38 @@ pub answer_list-requires : goal.answer_list-requires
 answer_list-requires c = (call_within _ _ (rw c.in-Ok-List.field-0-is at c.in-Ok-List.ensures)).lends
 
 pub returns-in-Ok-Parse : goal.returns-in-Ok-Parse
-returns-in-Ok-Parse c = answered c.args.line.now _ _ (rw c.in-Ok-Parse.field-0-is at c.in-Ok-Parse.ensures) c.answer_parse.ensures
+returns-in-Ok-Parse c =
+    let told = c.answer_parse.ensures in
+    record {
+      same_reference = told.2.same_reference;
+      answered = answered c.args.line.now _ _ (rw c.in-Ok-Parse.field-0-is at c.in-Ok-Parse.ensures) (told.0, told.1, told.2.held);
+    }
 
 pub returns-in-Ok-Long : goal.returns-in-Ok-Long
-returns-in-Ok-Long c = answered c.args.line.now _ _ (rw c.in-Ok-Long.field-0-is at c.in-Ok-Long.ensures) c.answer_long.ensures
+returns-in-Ok-Long c =
+    let told = c.answer_long.ensures in
+    record {
+      same_reference = told.same_reference;
+      answered = answered c.args.line.now _ _ (rw c.in-Ok-Long.field-0-is at c.in-Ok-Long.ensures) told.held;
+    }
 
 pub returns-in-Ok-List : goal.returns-in-Ok-List
-returns-in-Ok-List c = answered c.args.line.now _ _ (rw c.in-Ok-List.field-0-is at c.in-Ok-List.ensures) c.answer_list.ensures
+returns-in-Ok-List c =
+    let told = c.answer_list.ensures in
+    record {
+      same_reference = told.same_reference;
+      answered = answered c.args.line.now _ _ (rw c.in-Ok-List.field-0-is at c.in-Ok-List.ensures) told.held;
+    }
 
 pub returns-in-Ok-Write : goal.returns-in-Ok-Write
-returns-in-Ok-Write c = answered c.args.line.now _ _ (rw c.in-Ok-Write.field-0-is at c.in-Ok-Write.ensures) (rw c.behind_code.ensures at c.answer_write.ensures)
+returns-in-Ok-Write c =
+    let told = rw c.behind_code.ensures at c.answer_write.ensures in
+    record {
+      same_reference = told.same_reference;
+      answered = answered c.args.line.now _ _ (rw c.in-Ok-Write.field-0-is at c.in-Ok-Write.ensures) told.held;
+    }
 
 pub returns-in-Err : goal.returns-in-Err
-returns-in-Err c = answered c.args.line.now _ _ c.in-Err.ensures (search rules)
+returns-in-Err c =
+    let told = c.put_fault.ensures in
+    record { same_reference = told.same_reference; answered = answered c.args.line.now _ _ c.in-Err.ensures told.held }

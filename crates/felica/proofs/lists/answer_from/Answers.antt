@@ -1,8 +1,8 @@
 -- `felica::lists::answer_from` writes the line of what the list reader answers with buffers of the lengths of the call.
 -- Assumes nothing.
-use mathlib.Core.Path.{sym, ap, ◌∙◌}
-use lib.Seq.{length-take-le}
-use Rattle.felica_put.specs.Put.{put}
+use Rattle.std.proofs.Common.{sym}
+use Rattle.std.proofs.lemmas.List.{length-take-le}
+use Rattle.felica_put.proofs.Lists.{puts_same}
 use Rattle.felica.specs.Source.{reading_of, payload_in}
 use Rattle.felica.proofs.Listed.{line_first}
 use Rattle.felica.proofs.lists.answer_from.Goals as goal
@@ -27,4 +27,4 @@ returns c =
     let w = c.list-parsed in
     let a = c.args in
     let s = payload_in a.source a.bytes.now in
-    c.put_listed.ensures ∙ ap (put _) (line_first s (reading_of a.source a.bytes.now) a.sizes _ _ _ _ _ w.result _ c.requires w.ensures.0 w.ensures.1)
+    puts_same c.put_listed.ensures (line_first s (reading_of a.source a.bytes.now) a.sizes _ _ _ _ _ w.result _ c.requires w.ensures.0 w.ensures.1)
