@@ -1,8 +1,9 @@
 // Answers calls: reads them on standard input, a line each, and writes a line for each to standard output.
 #![tactic(auto)]
 
-ghost use Rattle.std.specs.Prelude.{◌≡◌, ◌≤◌, length};
+ghost use Rattle.std.specs.Prelude.{◌≡◌, ◌≤◌, ◌<◌, length, IfSome, IfOk};
 ghost use Rattle.felica_put.specs.Output.{held};
+ghost use Rattle.felica_stream.specs.Held.{IsWithin};
 ghost use Rattle.felica_calls.specs.Call.{read_call};
 ghost use Rattle.felica.specs.Answers.{Answered, LineAnswered};
 
@@ -14,11 +15,10 @@ use felica_calls::fault::{Fault, put_fault};
 use felica_calls::write::behind_code;
 use felica_put::Output;
 use felica_stream::{keep_rest, make_room, read_more};
-use felica_text::find::find;
 use felica_writing::answer_write;
 use lists::answer_list;
 use parse::{answer_long, answer_parse};
-use std::io::{Read, Write};
+use std::io::{self, Read, Write};
 
 // Bytes of the longest call.
 const MAX_CALL_BYTES: usize = 16384;
@@ -26,14 +26,6 @@ const MAX_CALL_BYTES: usize = 16384;
 // Room for the longest answer and its line feed: a package of that many bytes in digits, and the fields before it. Blocks and codes
 // come to less, and so do the five lists and what the writer writes, 16,384 bytes behind their count.
 const ANSWER_ROOM: usize = 33024;
-
-// How much is held of the input and how much of the output waits to be written, and whether a write failed.
-#[derive(Clone, Copy)]
-struct State {
-    held: usize,
-    waiting: usize,
-    failed: bool,
-}
 
 // An empty line is answered too, so that there is a line for each line.
 fn answer_call(line: &[u8], bytes: &mut [u8], out: &mut Output<u8>)
@@ -57,140 +49,97 @@ fn answer_line(line: &[u8], bytes: &mut [u8], out: &mut Output<u8>)
     out.put(b'\n');
 }
 
-// Answers the whole lines of `input`; what is held then is the rest of it.
+// Where the line feed of the first line stands, if it has one.
+fn line_end(text: &[u8]) -> Option<usize>
+    ensures { IfSome result (λ end. end < length text.now) }
+{
+    text.iter().position(|byte| *byte == b'\n')
+}
+
+// Answers the whole lines of `input`, and says how long the rest of it is.
 fn answer_lines<W: Write>(
     writer: &mut W,
     input: &[u8],
     bytes: &mut [u8],
-    out: &mut [u8],
-    waiting: usize,
-) -> State
-    requires { waiting ≤ length out.old }
-    ensures { (result.held ≤ length input.now) × (result.waiting ≤ length out.new) }
+    out: &mut Output<u8>,
+) -> io::Result<usize>
+    requires { IsWithin out.old }
+    ensures within { IsWithin out.new }
+    ensures rest { IfOk result (λ rest. rest ≤ length input.now) }
 {
-    let mut from = 0;
-    let mut next = waiting;
-    while from < input.len() {
-        let rest = &input[from..];
-        let end = find(rest, b'\n');
-        if rest.len() <= end {
-            return State {
-                held: rest.len(),
-                waiting: next,
-                failed: false,
-            };
-        }
-        let output = make_room(writer, out, next, ANSWER_ROOM);
-        if output.failed {
-            return State {
-                held: 0,
-                waiting: 0,
-                failed: true,
-            };
-        }
-        let mut answers = Output {
-            room: out,
-            len: output.waiting,
-        };
-        answer_line(&rest[..end], bytes, &mut answers);
-        next = answers.len;
-        from = from + end + 1;
+    let mut rest = input;
+    while let Some(end) = line_end(rest) {
+        make_room(writer, out, ANSWER_ROOM)?;
+        answer_line(&rest[..end], bytes, out);
+        rest = &rest[end + 1..];
     }
-    State {
-        held: 0,
-        waiting: next,
-        failed: false,
-    }
+    Ok(rest.len())
 }
 
 // Passes over the rest of a line, and answers how many bytes behind it are held. A proved loop has to end, and nothing says that the
-// input does: here and in `feed` the turns are counted down.
+// input does: here and in `feed` the turns are counted.
 fn skip_line<R: Read>(reader: &mut R, input: &mut [u8]) -> usize
     ensures { result ≤ length input.new }
 {
-    let mut turns = u64::MAX;
-    while 0 < turns {
-        let read = read_more(reader, input, 0);
-        let more = read.held;
+    for _ in 0..u64::MAX {
+        let more = read_more(reader, input, 0).unwrap_or(0);
         if more == 0 {
             return 0;
         }
-        let end = find(&input[..more], b'\n');
-        if end < more {
-            let from = end + 1;
-            keep_rest(input, from, more);
-            return more - from;
+        if let Some(end) = line_end(&input[..more]) {
+            keep_rest(input, end + 1, more);
+            return more - (end + 1);
         }
-        turns -= 1;
     }
     0
 }
 
-// Answers the whole lines of what is held, and moves the rest to the start. A line that fills the buffer is too long.
+// Answers the whole lines of what is held, moves the rest to the start, and says how long that is. A line that fills the buffer is too long.
 fn answer_held<R: Read, W: Write>(
     reader: &mut R,
     writer: &mut W,
     input: &mut [u8],
     held: usize,
     bytes: &mut [u8],
-    out: &mut [u8],
-    waiting: usize,
-) -> State
-    requires { (held ≤ length input.old) × (waiting ≤ length out.old) }
-    ensures { (result.held ≤ length input.new) × (result.waiting ≤ length out.new) }
+    out: &mut Output<u8>,
+) -> io::Result<usize>
+    requires { (held ≤ length input.old) × IsWithin out.old }
+    ensures within { IsWithin out.new }
+    ensures rest { IfOk result (λ rest. rest ≤ length input.new) }
 {
-    let state = answer_lines(writer, &input[..held], bytes, out, waiting);
-    let rest = state.held;
+    let rest = answer_lines(writer, &input[..held], bytes, out)?;
     if rest < input.len() {
         keep_rest(input, held - rest, held);
-        return state;
+        return Ok(rest);
     }
-    let output = make_room(writer, out, state.waiting, ANSWER_ROOM);
-    let mut line = Output {
-        room: out,
-        len: output.waiting,
-    };
-    put_fault(&mut line, Fault::LineTooLong);
-    line.put(b'\n');
-    State {
-        held: skip_line(reader, input),
-        waiting: line.len,
-        failed: output.failed,
-    }
+    make_room(writer, out, ANSWER_ROOM)?;
+    put_fault(out, Fault::LineTooLong);
+    out.put(b'\n');
+    Ok(skip_line(reader, input))
 }
 
-// Reads the input to its end, and answers every line that ends in a line feed. What is held then is the last line, which has none.
+// Reads the input to its end, and answers every line that ends in a line feed. What is held then is the last line, which has none. A read that fails is the end, too.
 fn feed<R: Read, W: Write>(
     reader: &mut R,
     writer: &mut W,
     input: &mut [u8],
     bytes: &mut [u8],
-    out: &mut [u8],
-) -> State
-    ensures { (result.held ≤ length input.new) × (result.waiting ≤ length out.new) }
+    out: &mut Output<u8>,
+) -> io::Result<usize>
+    requires { IsWithin out.old }
+    ensures within { IsWithin out.new }
+    ensures rest { IfOk result (λ held. held ≤ length input.new) }
 {
     let mut held = 0;
-    let mut waiting = 0;
-    let mut turns = u64::MAX;
-    while 0 < turns {
-        let read = read_more(reader, input, held);
-        let more = read.held;
-        let state = answer_held(reader, writer, input, more, bytes, out, waiting);
-        if state.failed {
-            return state;
-        }
+    for _ in 0..u64::MAX {
+        let more = read_more(reader, input, held).unwrap_or(held);
+        let rest = answer_held(reader, writer, input, more, bytes, out)?;
         if more == held {
-            return state;
+            return Ok(rest);
         }
-        held = state.held;
-        waiting = state.waiting;
-        turns -= 1;
+        held = rest;
     }
-    State {
-        held: held,
-        waiting: waiting,
-        failed: false,
-    }
+    Ok(held)
 }
 
 fn run<R: Read, W: Write>(
@@ -199,34 +148,21 @@ fn run<R: Read, W: Write>(
     input: &mut [u8],
     bytes: &mut [u8],
     out: &mut [u8],
-) {
-    let state = feed(reader, writer, input, bytes, out);
-    let held = state.held;
-    let waiting = state.waiting;
-    if state.failed {
-        return;
+) -> io::Result<()> {
+    let mut out = Output::new(out);
+    let held = feed(reader, writer, input, bytes, &mut out)?;
+    if held != 0 {
+        make_room(writer, &mut out, ANSWER_ROOM)?;
+        answer_line(&input[..held], bytes, &mut out);
     }
-    if held == 0 {
-        let _ = writer.write_all(&out[..waiting]);
-        return;
-    }
-    let output = make_room(writer, out, waiting, ANSWER_ROOM);
-    if output.failed {
-        return;
-    }
-    let mut answers = Output {
-        room: out,
-        len: output.waiting,
-    };
-    answer_line(&input[..held], bytes, &mut answers);
-    let _ = writer.write_all(answers.filled());
+    writer.write_all(out.filled())
 }
 
 fn main(rt: HostRuntime) {
     let mut input = [0u8; 65536];
     let mut bytes = [0u8; MAX_CALL_BYTES];
     let mut out = [0u8; 65536];
-    run(
+    let _ = run(
         &mut rt.stdin(),
         &mut rt.stdout(),
         &mut input,

@@ -1,12 +1,12 @@
 -- The table of specs/Examples.antt, computed.
 -- Assumes nothing.
-use mathlib.Core.Path.{refl}
+use Rattle.std.proofs.Common.{refl}
 use Rattle.felica_format.specs.Basic.{◌and◌, bind, refuse_if}
 use Rattle.felica_format.specs.Layout.{plain_rows, secure_rows, has, class_of, layout_in, layout_of}
 use Rattle.felica_format.specs.Read.{read_idm, read_selector, read_count, words_of, read_words, read_codes, read_short, read_long, read_element, read_each}
 use Rattle.felica_format.specs.Read.{read_elements, read_data, is_time_slots, read_values, read_ending, read_package, read_body, read_payload, read_frame}
 use Rattle.felica_text.specs.Text.{decimal_digits, decimal_text}
-use Rattle.felica_line.specs.Line.{marks_text, mark_field, accepted_text, record_line}
+use Rattle.felica_line.specs.Line.{mark_field, accepted_text, record_line}
 use Rattle.felica_log.specs.Listing.{front, total_line, listing_from, listing}
 use Rattle.felica_log.specs.Examples.{AllSamplesListed, samples}
 
@@ -16,7 +16,7 @@ unfolding ◌and◌ bind refuse_if read_frame read_payload read_body read_idm re
 reading = tt
 
 lining : Unit {0}
-unfolding decimal_text decimal_digits marks_text mark_field accepted_text record_line front total_line listing_from listing
+unfolding decimal_text decimal_digits mark_field accepted_text record_line front total_line listing_from listing
 lining = tt
 
 pub samples_listed : AllSamplesListed samples

@@ -1,13 +1,7 @@
 -- What stands at the front of a log, by its first byte and its length.
 -- Assumes nothing.
-use Prim.Native.Nat.{ℕ, zero, suc, ◌+◌, ◌-◌, ◌≤◌, ◌<◌}
-use native.Mathlib.Omega.{arith}
-use mathlib.Core.Path.{◌≡◌, refl}
-use mathlib.Core.Bool.{Bool, true, false, cond}
-use mathlib.Core.List.{List, [], ◌∷◌, ◌++◌}
-use lib.Dec.{leb}
-use lib.ListN.{length, get_or, take, drop}
-use borrow.Author.Tests.{le-leb, lt-leb}
+use Rattle.std.proofs.Common.{ℕ, zero, suc, ◌+◌, ◌-◌, ◌≤◌, ◌<◌, arith, ◌≡◌, refl, Bool, true, false, cond, List, [], ◌∷◌, ◌++◌, leb, length, get_or, take, drop, length-take, length-drop, le-leb}
+use Rattle.std.proofs.lemmas.Bool.{lt-leb}
 use Rattle.felica_text.specs.Text.{text}
 use Rattle.felica_totals.specs.declared.Totals.{Totals}
 use Rattle.felica_log.specs.Listing.{cut_by, frame_then, front, at_front, line_end, cut_line, records_left}
@@ -37,9 +31,13 @@ none_left t h = omega arith
 pub one_left : (t : Totals) → t.records < 1000000 → records_left t ≡ suc (1000000 - (t.records + 1))
 one_left t h = omega arith
 
+-- the bytes behind the first, as a slice is cut
+pub length_behind : (s : List ℕ) → length (take (length s - 1) (drop 1 s)) ≡ length s - 1
+length_behind s = omega (arith, length-take (length s - 1) (drop 1 s), length-drop 1 s)
+
 -- the line in front of TOTAL, by the tests on what is left of the log
 module _ (t : Totals) where
-  pub nothing_left : (s : List ℕ) → length s ≡ 0 → rest_line (records_left t) s ≡ []
+  pub nothing_left : (s : List ℕ) → length s < 1 → rest_line (records_left t) s ≡ []
   unfolding front
   nothing_left [] e = go (records_left t)
     where
@@ -48,15 +46,17 @@ module _ (t : Totals) where
       go (suc n) = refl
   nothing_left (x ∷ s) e = absurd (omega arith)
 
-  pub full_left : (s : List ℕ) → (length s ≡ 0 → ⊥) → 1000000 ≤ t.records → rest_line (records_left t) s ≡ text "FULL" ++ line_end
-  full_left [] some h = absurd (some refl)
+  pub full_left : (s : List ℕ) → 1 ≤ length s → 1000000 ≤ t.records → rest_line (records_left t) s ≡ text "FULL" ++ line_end
+  full_left [] some h = absurd (omega arith)
   full_left (x ∷ s) some h = rw (none_left t h)
 
-  pub whole_left : (s : List ℕ) → (length s ≡ 0 → ⊥) → t.records < 1000000 → get_or s 0 0 ≤ length s - 1 → rest_line (records_left t) s ≡ []
-  whole_left [] some h whole = absurd (some refl)
-  whole_left (x ∷ s) some h whole = rw (one_left t h, front_whole x s (omega arith))
+  pub whole_left : (s : List ℕ) → 1 ≤ length s → t.records < 1000000 → get_or s 0 0 ≤ length (take (length s - 1) (drop 1 s)) → rest_line (records_left t) s ≡ []
+  whole_left [] some h whole = absurd (omega arith)
+  whole_left (x ∷ s) some h whole = rw (one_left t h, front_whole x s (omega (arith, length_behind (x ∷ s), whole)))
 
-  pub cut_left : (s : List ℕ) → (length s ≡ 0 → ⊥) → t.records < 1000000 → length s - 1 < get_or s 0 0
-      → rest_line (records_left t) s ≡ cut_line (get_or s 0 0 - (length s - 1))
-  cut_left [] some h cut = absurd (some refl)
-  cut_left (x ∷ s) some h cut = let n : suc (length s) - 1 ≡ length s = omega arith in rw (one_left t h, front_cut x s (omega arith), n)
+  pub cut_left : (s : List ℕ) → 1 ≤ length s → t.records < 1000000 → length (take (length s - 1) (drop 1 s)) < get_or s 0 0
+      → rest_line (records_left t) s ≡ cut_line (get_or s 0 0 - length (take (length s - 1) (drop 1 s)))
+  cut_left [] some h cut = absurd (omega arith)
+  cut_left (x ∷ s) some h cut =
+      let n : length (take (suc (length s) - 1) s) ≡ length s = omega (arith, length_behind (x ∷ s)) in
+      rw (one_left t h, front_cut x s (omega (arith, length_behind (x ∷ s), cut)), n)

@@ -1,15 +1,7 @@
 -- The statements of specs/Rules.antt, each proved under its name.
 -- Assumes nothing.
-use Prim.Native.Nat.{ℕ, zero, suc, ◌+◌, ◌-◌, ◌≤◌, ◌<◌, ◌^◌}
-use native.Mathlib.Omega.{arith}
-use mathlib.Core.Path.{◌≡◌, refl, sym, ap, ◌∙◌, subst}
-use mathlib.Core.Logic.{◌⊎◌, inl, inr}
-use mathlib.Core.Bool.{Bool, true, false, cond, true≢false}
-use mathlib.Core.List.{List, [], ◌∷◌, ◌++◌, append_assoc, append-nil}
-use lib.Dec.{leb}
-use lib.ListN.{length, get_or, take, drop, length-append}
-use lib.Seq.{length-take-le, take-append_seam, drop-append_seam}
-use borrow.Author.Tests.{lt-ltb}
+use Rattle.std.proofs.Common.{ℕ, zero, suc, ◌+◌, ◌-◌, ◌≤◌, ◌<◌, ◌^◌, arith, ◌≡◌, refl, sym, ap, ◌∙◌, subst, ◌⊎◌, inl, inr, Bool, true, false, cond, true≢false, List, [], ◌∷◌, ◌++◌, append_assoc, append-nil, leb, length, get_or, take, drop, length-append, length-take-le, lt-ltb}
+use Rattle.std.proofs.Math.Seq.{take-append_seam, drop-append_seam}
 use Rattle.felica_format.specs.Read.{read_frame}
 use Rattle.felica_format.proofs.Tests.{and_both}
 use Rattle.felica_put.specs.Put.{Buffer, put}

@@ -1,15 +1,7 @@
 -- What a step has done where it stopped: the text that it put, the bytes that it listed, and what holds there. One induction over the records that may be read.
 -- Assumes nothing.
-use Prim.Native.Nat.{ℕ, zero, suc, ◌+◌, ◌≤◌, ◌<◌}
-use native.Mathlib.Nat.{add_comm}
-use native.Mathlib.Omega.{arith}
-use mathlib.Core.Path.{◌≡◌, refl, sym, ap, ◌∙◌, subst}
-use mathlib.Core.Logic.{◌⊎◌, inl, inr}
-use mathlib.Core.Bool.{Bool, true, false}
-use mathlib.Core.List.{List, [], ◌++◌, append_assoc, append-nil}
-use lib.ListN.{length, take, drop, length-append, length-drop}
-use lib.Seq.{take-append-le, drop-append-le, drop-drop}
-use borrow.Author.Tests.{leb-true}
+use Rattle.std.proofs.Common.{ℕ, zero, suc, ◌+◌, ◌≤◌, ◌<◌, add_comm, arith, ◌≡◌, refl, sym, ap, ◌∙◌, subst, ◌⊎◌, inl, inr, Bool, true, false, List, [], ◌++◌, append_assoc, append-nil, length, take, drop, length-append, length-drop, drop-drop, leb-true, Result, Ok, Err}
+use Rattle.std.proofs.lemmas.List.{take-append-le, drop-append-le}
 use Rattle.felica_format.specs.Read.{read_frame}
 use Rattle.felica_put.specs.Put.{Buffer, put}
 use Rattle.felica_put.proofs.Laws.{put_append, put_room, kept}
@@ -18,8 +10,6 @@ use Rattle.felica_totals.specs.Count.{counted}
 use Rattle.felica_line.specs.Line.{record_line, is_accepted, blocks_in}
 use Rattle.felica_line.proofs.Bounds.{blocks_few, line_length}
 use Rattle.felica_log.specs.declared.Stop.{Stop}
-use Rattle.felica_log.specs.declared.ahead.Ahead.{Ahead}
-use Rattle.felica_log.specs.declared.ahead.Ahead.TheVariants.{Frame, Stop as StopsBy}
 use Rattle.felica_log.specs.Listing.{counted_as, records_left, listing_from}
 use Rattle.felica_log.specs.Step.{Reached, reached, line_room, room_in, step_from}
 use Rattle.felica_log.specs.Rules.{Stopped, Sound}
@@ -61,7 +51,7 @@ pub record StepResult (b : Buffer) (t : Totals) (used : ℕ) (s : List ℕ) (r :
   pub stopped : Stopped r.stop (room_in r.out) r.totals (drop far s)
   pub sound : Sound t → Sound r.totals
 
-stopped_here : (b : Buffer) (t : Totals) (used : ℕ) (s : List ℕ) {stop : Stop} → ahead_of s (room_in b) t ≡ StopsBy stop → StepResult b t used s (reached b t used stop)
+stopped_here : (b : Buffer) (t : Totals) (used : ℕ) (s : List ℕ) {stop : Stop} → ahead_of s (room_in b) t ≡ Err stop → StepResult b t used s (reached b t used stop)
 unfolding put
 stopped_here b t used s e = record {
   text = [];
@@ -116,16 +106,16 @@ one_less t frame n e = counted_records t (is_accepted (read_frame frame)) (block
 pub step_result : (n : ℕ) (b : Buffer) (t : Totals) (used : ℕ) (s : List ℕ) → records_left t ≡ n → StepResult b t used s (step_from (records_left t) b t used s)
 step_result zero b t used s left = go (ahead_of s (room_in b) t) refl
   where
-    go : (a : Ahead) → ahead_of s (room_in b) t ≡ a → StepResult b t used s (step_from (records_left t) b t used s)
-    go (StopsBy stop) e = subst (StepResult b t used s) (sym (step_stopped b t used s e)) (stopped_here b t used s e)
-    go (Frame size) e = let few = (frame_ahead s (room_in b) t e).few in absurd (omega arith)
+    go : (a : Result ℕ Stop) → ahead_of s (room_in b) t ≡ a → StepResult b t used s (step_from (records_left t) b t used s)
+    go (Err stop) e = subst (StepResult b t used s) (sym (step_stopped b t used s e)) (stopped_here b t used s e)
+    go (Ok size) e = let few = (frame_ahead s (room_in b) t e).few in absurd (omega arith)
 step_result (suc n) b t used s left = go (ahead_of s (room_in b) t) refl (λ c u k l. step_result n c u k l)
   where
-    go : (a : Ahead) → ahead_of s (room_in b) t ≡ a
+    go : (a : Result ℕ Stop) → ahead_of s (room_in b) t ≡ a
         → ((c : Buffer) (u : Totals) (k : ℕ) (l : List ℕ) → records_left u ≡ n → StepResult c u k l (step_from (records_left u) c u k l))
         → StepResult b t used s (step_from (records_left t) b t used s)
-    go (StopsBy stop) e later = subst (StepResult b t used s) (sym (step_stopped b t used s e)) (stopped_here b t used s e)
-    go (Frame size) e later =
+    go (Err stop) e later = subst (StepResult b t used s) (sym (step_stopped b t used s e)) (stopped_here b t used s e)
+    go (Ok size) e later =
         let l = frame_ahead s (room_in b) t e in
         let frame = take size (drop 1 s) in
         let u = counted_as t (read_frame frame) in

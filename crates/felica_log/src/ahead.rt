@@ -6,34 +6,25 @@ use crate::{LINE_ROOM, MAX_RECORDS, Stop};
 use felica_format::constants::MAX_BLOCK_COUNT;
 use felica_totals::Totals;
 
-// A record to be listed, by the size of its frame; or why there is none.
-#[derive(Clone, Copy)]
-pub(crate) enum Ahead {
-    Frame(usize),
-    Stop(Stop),
-}
-
-// `room` is how many bytes can still be put into the buffer.
-pub(crate) fn look_ahead(rest: &[u8], room: usize, totals: Totals) -> Ahead
+// The size byte of the record to be listed next, or why there is none. `room` is how many bytes can still be put into the buffer.
+#[tactic(auto, using(crate::proofs::Turn::ahead_none, crate::proofs::Turn::ahead_some, std::proofs::lemmas::Bool::Decides::nat_tests))]
+pub(crate) fn look_ahead(rest: &[u8], room: usize, totals: Totals) -> Result<u8, Stop>
     ensures { result ≡ ahead_of rest.now room totals }
 {
-    if rest.len() == 0 {
-        return Ahead::Stop(Stop::AtEnd);
-    }
+    let [size, behind @ ..] = rest else {
+        return Err(Stop::AtEnd);
+    };
     if MAX_RECORDS <= totals.records {
-        return Ahead::Stop(Stop::AtLimit);
+        return Err(Stop::AtLimit);
     }
-    let size = rest[0] as usize;
-    let there = rest.len() - 1;
-    if there < size {
-        return Ahead::Stop(Stop::AtCut);
+    if behind.len() < usize::from(*size) {
+        return Err(Stop::AtCut);
     }
     if room < LINE_ROOM {
-        return Ahead::Stop(Stop::NoRoom);
+        return Err(Stop::NoRoom);
     }
-    if totals.has_room(MAX_BLOCK_COUNT as usize) {
-        Ahead::Frame(size)
-    } else {
-        Ahead::Stop(Stop::TotalsFull)
+    if !totals.has_room(usize::from(MAX_BLOCK_COUNT)) {
+        return Err(Stop::TotalsFull);
     }
+    Ok(*size)
 }

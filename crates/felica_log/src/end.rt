@@ -1,62 +1,60 @@
 // The lines behind the last record.
-ghost use Rattle.std.specs.Prelude.{◌≡◌};
-ghost use Rattle.felica_put.specs.Put.{buffer, put};
+ghost use Rattle.felica_put.specs.Output.{Puts};
 ghost use Rattle.felica_log.specs.Listing.{number_field, cut_line, total_line, records_left};
 ghost use Rattle.felica_log.specs.Step.{rest_line, end_text};
 
 use crate::MAX_RECORDS;
-use felica_put::{put_byte, put_bytes};
+use felica_put::Output;
 use felica_text::put::put_decimal;
 use felica_totals::Totals;
 
 // CUT, FULL or nothing, and TOTAL, where `rest` is what is left of the log and `totals` are those of the records before it.
-pub fn put_end(out: &mut [u8], at: usize, rest: &[u8], totals: Totals) -> usize
-    ensures { buffer out.new result ≡ put (buffer out.old at) (end_text totals rest.now) }
+pub fn put_end(out: &mut Output<u8>, rest: &[u8], totals: Totals)
+    ensures { Puts out.old out.new (end_text totals rest.now) }
 {
-    let next = put_rest_line(out, at, rest, totals);
-    put_total_line(out, next, totals)
+    put_rest_line(out, rest, totals);
+    put_total_line(out, totals);
 }
 
-fn put_rest_line(out: &mut [u8], at: usize, rest: &[u8], totals: Totals) -> usize
-    ensures { buffer out.new result ≡ put (buffer out.old at) (rest_line (records_left totals) rest.now) }
+fn put_rest_line(out: &mut Output<u8>, rest: &[u8], totals: Totals)
+    ensures { Puts out.old out.new (rest_line (records_left totals) rest.now) }
 {
-    if rest.len() == 0 {
-        return at;
-    }
+    let [size, behind @ ..] = rest else {
+        return;
+    };
     if MAX_RECORDS <= totals.records {
-        return put_bytes(out, at, b"FULL\n");
+        out.put_all(b"FULL\n");
+        return;
     }
-    let size = rest[0] as usize;
-    let there = rest.len() - 1;
-    if size <= there {
-        return at;
+    let size = usize::from(*size);
+    if behind.len() < size {
+        put_cut_line(out, size - behind.len());
     }
-    put_cut_line(out, at, size - there)
 }
 
-fn put_cut_line(out: &mut [u8], at: usize, missing: usize) -> usize
-    ensures { buffer out.new result ≡ put (buffer out.old at) (cut_line missing) }
+fn put_cut_line(out: &mut Output<u8>, missing: usize)
+    ensures { Puts out.old out.new (cut_line missing) }
 {
-    let next = put_bytes(out, at, b"CUT");
-    let end = put_number(out, next, missing);
-    put_byte(out, end, b'\n')
+    out.put_all(b"CUT");
+    put_number(out, missing);
+    out.put(b'\n');
 }
 
-fn put_total_line(out: &mut [u8], at: usize, totals: Totals) -> usize
-    ensures { buffer out.new result ≡ put (buffer out.old at) (total_line totals) }
+fn put_total_line(out: &mut Output<u8>, totals: Totals)
+    ensures { Puts out.old out.new (total_line totals) }
 {
-    let records_at = put_bytes(out, at, b"TOTAL");
-    let accepted_at = put_number(out, records_at, totals.records);
-    let refused_at = put_number(out, accepted_at, totals.accepted);
-    let blocks_at = put_number(out, refused_at, totals.refused);
-    let end = put_number(out, blocks_at, totals.blocks);
-    put_byte(out, end, b'\n')
+    out.put_all(b"TOTAL");
+    put_number(out, totals.records);
+    put_number(out, totals.accepted);
+    put_number(out, totals.refused);
+    put_number(out, totals.blocks);
+    out.put(b'\n');
 }
 
 // A space and a number.
-fn put_number(out: &mut [u8], at: usize, number: usize) -> usize
-    ensures { buffer out.new result ≡ put (buffer out.old at) (number_field number) }
+fn put_number(out: &mut Output<u8>, number: usize)
+    ensures { Puts out.old out.new (number_field number) }
 {
-    let next = put_byte(out, at, b' ');
-    put_decimal(out, next, number)
+    out.put(b' ');
+    put_decimal(out, number);
 }

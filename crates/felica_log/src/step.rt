@@ -1,62 +1,36 @@
 // A step over a piece of a log.
-ghost use Rattle.std.specs.Prelude.{◌≡◌, ◌-◌};
-ghost use Rattle.felica_put.specs.Put.{buffer};
+ghost use Rattle.std.specs.Prelude.{◌≡◌};
+ghost use Rattle.felica_put.specs.Output.{held};
 ghost use Rattle.felica_log.specs.Step.{reached, step};
 
 use crate::Stop;
-use crate::ahead::{Ahead, look_ahead};
+use crate::ahead::look_ahead;
 use felica_line::put_frame_line;
-use felica_totals::{Totals, after_record};
+use felica_put::Output;
+use felica_totals::Totals;
 
-// How far a step came: the bytes of the piece that are listed, the place behind the last line, the totals, and why it stopped.
+// How far a step came: the bytes of the piece that are listed, and why it stopped.
 #[derive(Clone, Copy)]
 pub struct Progress {
     pub used: usize,
-    pub next: usize,
-    pub totals: Totals,
     pub stop: Stop,
 }
 
-// Lists the whole records at the front of `piece` into `out` from `at` on. `totals` are those of the records before the piece.
-pub fn list_records(piece: &[u8], out: &mut [u8], at: usize, totals: Totals) -> Progress
-    ensures { reached (buffer out.new result.next) result.totals result.used result.stop ≡ step (buffer out.old at) totals piece.now }
+// Lists the whole records at the front of `piece` into `out`. `totals` are those of the records before it, and count these too.
+pub fn list_records(piece: &[u8], out: &mut Output<u8>, totals: &mut Totals) -> Progress
+    ensures same_reference { out.new.room.ghost_name ≡ out.old.room.ghost_name }
+    ensures reached { reached (held out.new) totals.new result.used result.stop ≡ step (held out.old) totals.old piece.now }
 {
     let mut used = 0;
-    let mut next = at;
-    let mut after = totals;
-    while used < piece.len() {
+    loop {
         let rest = &piece[used..];
-        let room = room_behind(out.len(), next);
-        let ahead = look_ahead(rest, room, after);
-        match ahead {
-            Ahead::Frame(size) => {
-                let end = size + 1;
-                let line = put_frame_line(out, next, after.records + 1, &rest[1..end]);
-                after = after_record(after, line.accepted, line.blocks);
-                next = line.next;
-                used += end;
-            }
-            Ahead::Stop(stop) => {
-                return Progress {
-                    used: used,
-                    next: next,
-                    totals: after,
-                    stop: stop,
-                };
-            }
-        }
+        let room = out.room.len().saturating_sub(out.len);
+        let size = match look_ahead(rest, room, *totals) {
+            Ok(size) => size,
+            Err(stop) => return Progress { used, stop },
+        };
+        let end = usize::from(size) + 1;
+        totals.count(put_frame_line(out, totals.records + 1, &rest[1..end]));
+        used += end;
     }
-    Progress {
-        used: used,
-        next: next,
-        totals: after,
-        stop: Stop::AtEnd,
-    }
-}
-
-// How many bytes a buffer of `length` bytes has from `next` on.
-fn room_behind(length: usize, next: usize) -> usize
-    ensures { result ≡ length - next }
-{
-    if next < length { length - next } else { 0 }
 }

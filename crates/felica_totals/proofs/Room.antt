@@ -1,38 +1,14 @@
--- Whether totals have room for one more record, test by test.
+-- What totals with room for one more record have, and what counting it gives.
 -- Assumes nothing.
-use Prim.Native.Nat.{ℕ, ◌+◌, ◌-◌, ◌≤◌, ◌<◌, ◌^◌}
-use native.Mathlib.Omega.{arith}
-use mathlib.Core.Path.{◌≡◌, refl, sym}
-use mathlib.Core.Bool.{Bool, true, false}
-use lib.Dec.{ltb, leb}
-use borrow.Author.Tests.{lt-ltb, le-ltb, ltb-true, leb-true, leb-false}
-use Rattle.felica_format.specs.Basic.{◌and◌}
+use Rattle.std.proofs.Common.{ℕ, ◌+◌, ◌<◌, ◌^◌, ◌≡◌, sym, Bool, true, false, None, Some}
+use Rattle.std.proofs.lemmas.Bool.{ltb-true}
+use Rattle.std.specs.declared.option.Option.{Option}
+use Rattle.std.specs.Prelude.{unwrap_or}
 use Rattle.felica_format.proofs.Tests.{and_left, and_right}
 use Rattle.felica_totals.specs.declared.Totals.{Totals}
-use Rattle.felica_totals.specs.Count.{counted, has_room, counted_within}
+use Rattle.felica_totals.specs.Count.{counted, has_room, counted_within, counted_record}
 
 module _ (t : Totals) (blocks : ℕ) where
-  pub records_full : 2 ^ 64 ≤ t.records + 1 → has_room t blocks ≡ false
-  unfolding has_room ◌and◌
-  records_full h = rw (le-ltb _ _ h)
-
-  pub accepted_full : t.records + 1 < 2 ^ 64 → 2 ^ 64 ≤ t.accepted + 1 → has_room t blocks ≡ false
-  unfolding has_room ◌and◌
-  accepted_full r h = rw (lt-ltb _ _ r, le-ltb _ _ h)
-
-  pub refused_full : t.records + 1 < 2 ^ 64 → t.accepted + 1 < 2 ^ 64 → 2 ^ 64 ≤ t.refused + 1 → has_room t blocks ≡ false
-  unfolding has_room ◌and◌
-  refused_full r a h = rw (lt-ltb _ _ r, lt-ltb _ _ a, le-ltb _ _ h)
-
-  pub blocks_left : t.records + 1 < 2 ^ 64 → t.accepted + 1 < 2 ^ 64 → t.refused + 1 < 2 ^ 64 → t.blocks < 2 ^ 64
-      → leb blocks (2 ^ 64 - 1 - t.blocks) ≡ has_room t blocks
-  unfolding has_room ◌and◌
-  blocks_left r a f b = rw (lt-ltb _ _ r, lt-ltb _ _ a, lt-ltb _ _ f) (go (leb blocks (2 ^ 64 - 1 - t.blocks)) refl)
-    where
-      go : (test : Bool) → leb blocks (2 ^ 64 - 1 - t.blocks) ≡ test → test ≡ ltb (t.blocks + blocks) (2 ^ 64)
-      go true e = let h : blocks ≤ 2 ^ 64 - 1 - t.blocks = leb-true _ _ e in sym (lt-ltb (t.blocks + blocks) (2 ^ 64) (omega arith))
-      go false e = let h : 2 ^ 64 - 1 - t.blocks < blocks = leb-false _ _ e in sym (le-ltb (t.blocks + blocks) (2 ^ 64) (omega arith))
-
   -- what totals with room have
   pub record Room : Type 0 where
     pub records : t.records + 1 < 2 ^ 64
@@ -56,3 +32,18 @@ module _ (t : Totals) (blocks : ℕ) where
   pub kept_without_room : (accepted : Bool) → has_room t blocks ≡ false → counted_within t accepted blocks ≡ t
   unfolding counted_within
   kept_without_room accepted h = rw h
+
+-- the same of a record by the blocks that it was accepted with
+module _ (t : Totals) (o : Option ℕ) where
+  pub kept : has_room t (unwrap_or o 0) ≡ false → t ≡ counted_record t o
+  kept h = go o h
+    where
+      go : (o : Option ℕ) → has_room t (unwrap_or o 0) ≡ false → t ≡ counted_record t o
+      go (Some blocks) h = sym (kept_without_room t blocks true h)
+      go None h = sym (kept_without_room t 0 false h)
+
+  pub counted_some : (blocks : ℕ) → has_room t (unwrap_or o 0) ≡ true → o ≡ Some blocks → counted t true blocks ≡ counted_record t o
+  counted_some blocks h is = rw is (sym (counted_with_room t blocks true (rw is at h)))
+
+  pub counted_none : has_room t (unwrap_or o 0) ≡ true → o ≡ None → counted t false 0 ≡ counted_record t o
+  counted_none h is = rw is (sym (counted_with_room t 0 false (rw is at h)))

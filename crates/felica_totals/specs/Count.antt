@@ -1,6 +1,7 @@
 -- The totals of a listing, brought up to date record by record.
 -- Assumes nothing.
-use Rattle.std.specs.Prelude.{ℕ, ◌+◌, ◌^◌, Bool, true, false, cond, ltb}
+use Rattle.std.specs.Prelude.{ℕ, ◌+◌, ◌^◌, Bool, true, false, cond, ltb, None, Some}
+use Rattle.std.specs.declared.option.Option.{Option}
 use Rattle.felica_format.specs.Basic.{◌and◌}
 use Rattle.felica_totals.specs.declared.Totals.{Totals}
 
@@ -24,3 +25,8 @@ has_room t blocks =
 -- totals without room stay as they are
 unfoldable pub counted_within : Totals → Bool → ℕ → Totals
 counted_within t accepted blocks = cond (has_room t blocks) (counted t accepted blocks) t
+
+-- the same of a record by the blocks that it was accepted with, if it was; a refused one has none
+abbrev pub counted_record : Totals → Option ℕ → Totals
+counted_record t (Some blocks) = counted_within t true blocks
+counted_record t None = counted_within t false 0

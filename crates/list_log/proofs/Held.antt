@@ -1,33 +1,30 @@
 -- Steps over the bytes held, one behind another, and the rest of them moved to the front.
 -- Assumes nothing.
-use Prim.Native.Nat.{ℕ, zero, suc, ◌+◌, ◌-◌, ◌≤◌, ◌<◌}
-use native.Mathlib.Nat.{zero-add, sub-zero}
-use native.Mathlib.Omega.{arith}
-use mathlib.Core.Path.{◌≡◌, refl, sym, ap, ◌∙◌, subst}
-use mathlib.Core.Logic.{◌⊎◌, inl, inr}
-use mathlib.Core.Bool.{Bool, true, false, cond, ◌&&◌, true≢false}
-use mathlib.Core.List.{List, [], ◌∷◌, ◌++◌, append_assoc, append-nil}
-use lib.Dec.{ltb, leb}
-use lib.ListN.{length, get_or, take, drop, length-drop, length-append, take-append-drop}
-use lib.Seq.{length-take-le, take-append-le, take-nil, drop-drop, paste, take-paste}
-use borrow.Author.Tests.{eqb-true, ltb-true, ltb-false, leb-true, leb-false, le-leb}
-use Rattle.std.specs.Prelude.{nat_eq, None, Some, Result, Ok, Err, OnOk}
+use Rattle.std.proofs.Common.{ℕ, zero, suc, ◌+◌, ◌-◌, ◌≤◌, ◌<◌, zero-add, arith, ◌≡◌, refl, sym, ap, ◌∙◌, subst, ◌⊎◌, inl, inr, Bool, true, false, cond, ◌&&◌, true≢false, List, [], ◌∷◌, ◌++◌, append_assoc, append-nil, ltb, leb, length, get_or, take, drop, length-drop, length-append, take-append-drop, length-take-le, drop-drop, eqb-true, ltb-true, ltb-false, leb-true, leb-false, le-leb}
+use Rattle.std.proofs.Math.Nat.{sub-zero}
+use Rattle.std.proofs.Math.Seq.{paste}
+use Rattle.std.proofs.lemmas.List.{drop-take, take-append-le}
+use Rattle.std.proofs.lemmas.List.Edits.{take-paste}
+use Rattle.std.specs.Prelude.{nat_eq, None, Some, Result, Ok, Err, OnOk, MatchResult}
 use Rattle.std.specs.Result.{is_ok}
 use Rattle.std.specs.declared.option.Option.{Option}
 use Rattle.std.specs.Io.KnownBytes.{Consumes, Appends, IsAtEnd}
-use Rattle.felica_put.specs.Put.{Buffer, buffer, put}
-use Rattle.felica_put.proofs.Laws.{put_room, put_taken}
+use Rattle.felica_put.specs.declared.Output.{Output}
+use Rattle.felica_put.specs.Output.{Puts, held}
+use Rattle.felica_put.specs.Put.{Buffer}
+use Rattle.felica_put.proofs.Laws.{put_room, put_taken, kept}
 use Rattle.felica_totals.specs.declared.Totals.{Totals}
 use Rattle.felica_totals.specs.Count.{no_totals}
-use Rattle.felica_stream.specs.Held.{moved, still_waiting}
-use Rattle.felica_stream.proofs.Held.{room_made}
+use Rattle.felica_stream.specs.Held.{moved, RoomMade}
+use Rattle.felica_stream.proofs.Held.{room_length, waits_inside, room_made}
 use Rattle.felica_log.specs.declared.Stop.{Stop}
 use Rattle.felica_log.specs.Listing.{max_records, records_left, listing_from, listing}
-use Rattle.felica_log.specs.Step.{Reached, reached, lacks_room, room_for_line, step, end_text}
+use Rattle.felica_log.specs.Step.{Reached, reached, lacks_room, line_room, room_for_line, step, end_text}
 use Rattle.felica_log.specs.Rules.{lines, Sound, NoneLeft}
 use Rattle.felica_log.proofs.Front.{front_whole}
 use Rattle.felica_log.proofs.Rules.{end_listed_from, full_behind, step_lists, step_keeps, step_inside, sound_kept, none_left_behind, room_used}
-use Rattle.list_log.specs.Held.{ListedUpTo, RestKept, ReadAndListed, ReadToEnd, at_end, at_limit, too_long, AllRead, TakesListing, EndPut, over}
+use Rattle.felica_log.proofs.StepResult.{step_result}
+use Rattle.list_log.specs.Held.{HasLineRoom, ListedUpTo, RestKept, ReadAndListed, ReadToEnd, at_end, at_limit, too_long, AllRead, TakesListing, EndPut, over}
 
 -- what a writer takes, and what a reader gives
 appends_none : (v : Option (List ℕ)) → Appends v v []
@@ -40,9 +37,19 @@ appends_more (Some xs) None w a b h k = absurd h
 appends_more (Some xs) (Some ys) None a b h k = absurd k
 appends_more (Some xs) (Some ys) (Some zs) a b h k = k ∙ ap (λ (x : List ℕ). x ++ b) h ∙ append_assoc xs a b
 
-pub is_written : {A E : Type 0} (r : Result A E) {P : Type 0} → is_ok r ≡ true → OnOk r P → P
-is_written (Ok x) e h = h
-is_written (Err x) e h = absurd (true≢false (sym e))
+pub on_ok : {A E : Type 0} (r : Result A E) {P Q : Type 0} → (P → Q) → OnOk r P → OnOk r Q
+on_ok (Ok x) f p = f p
+on_ok (Err x) f p = tt
+
+-- a value that is there behind `map_err` was there before it
+pub from_ok : {A E D : Type 0} (r : Result A E) (q : Result A D) (P : E → Type 0) {x : A} → MatchResult r (λ (y : A). q ≡ Ok y) P → is_ok q ≡ is_ok r → q ≡ Ok x → r ≡ Ok x
+from_ok (Ok y) q P same ok is = cc
+from_ok (Err e) q P failed ok is = absurd (true≢false (sym (ap is_ok is) ∙ ok))
+
+pub ok_as : {A B E D : Type 0} (r : Result A E) (q : Result B D) (P : Type 0) → is_ok q ≡ is_ok r → OnOk r P → OnOk q P
+ok_as r (Err e) P same p = tt
+ok_as (Ok x) (Ok y) P same p = p
+ok_as (Err x) (Ok y) P same p = absurd (true≢false same)
 
 consumes_none : (r : Option (List ℕ)) → Consumes r r []
 consumes_none None = tt
@@ -59,15 +66,31 @@ still : (out : List ℕ) (next : ℕ) (fits : Bool) → take next out ≡ take (
 still out next true = let none : next - next ≡ 0 = omega arith in rw none
 still out next false = rw sub-zero (sym (append-nil (take next out)))
 
-pub still_waits : (out : List ℕ) (next room : ℕ) {n : ℕ} → n ≡ still_waiting (length out) next room → take next out ≡ take (next - n) out ++ take n out
-still_waits out next room {n} e = subst (λ (m : ℕ). take next out ≡ take (next - m) out ++ take m out) (sym e) (still out next (leb (next + room) (length out)))
+module _ {o p : Output ℕ} (made : RoomMade o p line_room) where
+  pub still_waits : take o.len o.room.now ≡ take (o.len - p.len) o.room.now ++ take p.len p.room.now
+  still_waits =
+      ap (λ (b : Buffer). take o.len o.room.now) made.held
+      ∙ still o.room.now o.len (leb (o.len + line_room) (length o.room.now))
+      ∙ ap (λ (b : Buffer). take (o.len - b.next) o.room.now ++ take b.next b.bytes) (sym made.held)
+
+  -- there is room for a line then
+  pub line_room_made : HasLineRoom o → HasLineRoom p
+  line_room_made h = record { inside = waits_inside made; line = omega (arith, room_length made, h.line) }
+
+  pub line_fits : HasLineRoom o → room_for_line (held p) ≡ true
+  line_fits h = le-leb line_room (length p.room.now - p.len) (omega (arith, room_made made h.line))
 
 -- one step more
 module _ (b : Buffer) (u : Totals) (piece : List ℕ) {out : Buffer} {v : Totals} {n : ℕ} {stop : Stop} (e : reached out v n stop ≡ step b u piece) where
   pub used_inside : n ≤ length piece
   used_inside = subst (λ (r : Reached). r.used ≤ length piece) (sym e) (step_inside b u piece).0
 
-  pub next_inside : b.next ≤ length b.bytes → out.next ≤ length out.bytes
+  length_after : length out.bytes ≡ length b.bytes
+  length_after =
+      let puts = step_result (records_left u) b u 0 piece refl in
+      ap (λ (r : Reached). length r.out.bytes) e ∙ ap (λ (c : Buffer). length c.bytes) puts.puts ∙ (kept b puts.text).long
+
+  next_inside : b.next ≤ length b.bytes → out.next ≤ length out.bytes
   next_inside h = subst (λ (r : Reached). r.out.next ≤ length r.out.bytes) (sym e) ((step_inside b u piece).1 h)
 
   pub sound_after : Sound u → Sound v
@@ -99,66 +122,61 @@ module _ (b : Buffer) (u : Totals) (piece : List ℕ) {out : Buffer} {v : Totals
     taken = l.taken;
   })
 
+  -- the output has room for a line still
+  pub room_after : {o p : Output ℕ} → b ≡ held o → out ≡ held p → HasLineRoom o → HasLineRoom p
+  room_after {o} {p} is now h = record {
+    inside = subst (λ (x : Buffer). x.next ≤ length x.bytes) now (next_inside (subst (λ (x : Buffer). x.next ≤ length x.bytes) (sym is) h.inside));
+    line = omega (arith, ap (λ (x : Buffer). length x.bytes) is, ap (λ (x : Buffer). length x.bytes) now, length_after, h.line);
+  }
+
 -- where room is made, the writer takes what is written
-pub listed_room : (v w z : Option (List ℕ)) (t : Totals) (a : Buffer) (held : List ℕ) (u : Totals) (used : ℕ) (out : List ℕ) (next room : ℕ) {n : ℕ} → n ≡ still_waiting (length out) next room
-    → Appends w z (take (next - n) out) → ListedUpTo v t a held w u (buffer out next) used → ListedUpTo v t a held z u (buffer out n) used
-listed_room v w z t a held u used out next room {n} e more l = record {
+pub listed_room : (v w z : Option (List ℕ)) (t : Totals) (a : Buffer) (bytes : List ℕ) (u : Totals) (used : ℕ) {o p : Output ℕ} → RoomMade o p line_room
+    → Appends w z (take (o.len - p.len) o.room.now) → ListedUpTo v t a bytes w u (held o) used → ListedUpTo v t a bytes z u (held p) used
+listed_room v w z t a bytes u used {o} {p} made more l = record {
   lines = l.lines;
-  written = l.written ++ take (next - n) out;
+  written = l.written ++ take (o.len - p.len) o.room.now;
   lists = l.lists;
-  waits = l.waits ∙ ap (λ (x : List ℕ). l.written ++ x) (still_waits out next room e) ∙ sym (append_assoc l.written (take (next - n) out) (take n out));
-  taken = appends_more v w z l.written (take (next - n) out) l.taken more;
+  waits = l.waits ∙ ap (λ (x : List ℕ). l.written ++ x) (still_waits made) ∙ sym (append_assoc l.written (take (o.len - p.len) o.room.now) (take p.len p.room.now));
+  taken = appends_more v w z l.written (take (o.len - p.len) o.room.now) l.taken more;
 }
 
 pub listed_start : (v : Option (List ℕ)) (t : Totals) (a : Buffer) (held : List ℕ) → ListedUpTo v t a held v t a 0
 listed_start v t a held = record { lines = []; written = []; lists = λ behind. refl; waits = append-nil (take a.next a.bytes); taken = appends_none v }
 
 -- the rest of the bytes held, moved to the front
-drop_take : (m n : ℕ) (s : List ℕ) → drop m (take n s) ≡ take (n - m) (drop m s)
-drop_take zero n s = rw sub-zero
-drop_take (suc m) zero s = let none : 0 - suc m ≡ 0 = omega arith in rw none
-drop_take (suc m) (suc n) [] = sym (take-nil (suc n - suc m))
-drop_take (suc m) (suc n) (x ∷ s) = let same : suc n - suc m ≡ n - m = omega arith in rw same (drop_take m n s)
-
-pub rest_moved : (s : List ℕ) (used held : ℕ) → used ≤ held → held ≤ length s → take (held - used) (moved s used held) ≡ drop used (take held s)
+pub rest_moved : (s : List ℕ) (used end : ℕ) → used ≤ end → end ≤ length s → take (end - used) (moved s used end) ≡ drop used (take end s)
 unfolding moved
-rest_moved s used held h k =
-    rw (le-leb held (length s) k)
-    (ap (λ (n : ℕ). take n (paste s 0 (drop used s) (held - used))) (sym (zero-add (held - used)))
-    ∙ take-paste s 0 (drop used s) (held - used) (omega arith) (rw (length-drop used s) (omega arith))
-    ∙ sym (drop_take used held s))
+rest_moved s used end h k =
+    let all : used + (end - used) ≡ end = omega arith in
+    rw (le-leb end (length s) k)
+    (ap (λ (n : ℕ). take n (paste s 0 (drop used s) (end - used))) (sym (zero-add (end - used)))
+    ∙ take-paste s 0 (drop used s) (end - used) (omega arith) (rw (length-drop used s) (omega arith))
+    ∙ sym (drop-take used (end - used) s) ∙ ap (λ (n : ℕ). drop used (take n s)) all)
 
 pub none_kept : (v : Option (List ℕ)) (t : Totals) (a : Buffer) (held : List ℕ) (w : Option (List ℕ)) (u : Totals) (b : Buffer) (rest : List ℕ) → RestKept v t a held w u b rest → NoneLeft u rest
 none_kept v t a held w u b rest (used, all, is) = subst (NoneLeft u) (sym is) all.1
 
--- while it goes on, no write has failed
-pub not_over : (ended failed : Bool) (t : Totals) (held : ℕ) → over ended failed t held ≡ false → failed ≡ false
-unfolding over
-not_over true failed t held e = absurd (true≢false e)
-not_over false true t held e = absurd (true≢false e)
-not_over false false t held e = refl
-
 -- the lines behind the records stand whole behind what waits
-module _ (out : List ℕ) (next w : ℕ) (text : List ℕ) {l : List ℕ} {n : ℕ} (e : w ≡ still_waiting (length out) next 128) (room : 128 ≤ length out) (short : length text ≤ 128)
-    (is : buffer l n ≡ put (buffer out w) text) where
-  fits : w + length text ≤ length out
-  fits = omega (arith, room_made w next 128 (length out) e room, short)
+module _ {o p q : Output ℕ} (text : List ℕ) (made : RoomMade o p line_room) (room : HasLineRoom o) (short : length text ≤ line_room) (puts : Puts p q text) where
+  fits : p.len + length text ≤ length p.room.now
+  fits = omega (arith, room_made made room.line, short)
 
-  end_whole : take n l ≡ take w out ++ text
-  end_whole = ap (λ (b : Buffer). take b.next b.bytes) is ∙ put_taken text out w fits
+  end_whole : take q.len q.room.now ≡ take p.len p.room.now ++ text
+  end_whole = ap (λ (b : Buffer). take b.next b.bytes) puts.held ∙ put_taken text p.room.now p.len fits
 
-  pub end_put : EndPut (buffer out next) text l
+  pub end_put : EndPut (held o) text q.room.now
   end_put =
-      let at : n ≡ w + length text = ap (λ (b : Buffer). b.next) (is ∙ put_room text out w fits) in
-      let whole : take (w + length text) l ≡ take w out ++ text = ap (λ (k : ℕ). take k l) (sym at) ∙ end_whole in
-      subst (λ (k : ℕ). take (k + length text) l ≡ take k out ++ text) e whole
+      let far : q.len ≡ p.len + length text = ap (λ (b : Buffer). b.next) (puts.held ∙ put_room text p.room.now p.len fits) in
+      let whole : take (p.len + length text) q.room.now ≡ take p.len p.room.now ++ text = ap (λ (k : ℕ). take k q.room.now) (sym far) ∙ end_whole in
+      subst (λ (b : Buffer). take (b.next + length text) q.room.now ≡ take b.next b.bytes ++ text) made.held whole
 
   -- and the writer takes them, with what waits
-  pub end_taken : (u v z : Option (List ℕ)) → Appends u v (take (next - w) out) → Appends v z (take n l) → Appends u z (take next out ++ text)
+  pub end_taken : (u v z : Option (List ℕ)) → Appends u v (take (o.len - p.len) o.room.now) → Appends v z (take q.len q.room.now) → Appends u z (take o.len o.room.now ++ text)
   end_taken u v z first second =
-      let all = appends_more u v z (take (next - w) out) (take n l) first second in
+      let all = appends_more u v z (take (o.len - p.len) o.room.now) (take q.len q.room.now) first second in
       subst (Appends u z)
-      (ap (λ (x : List ℕ). take (next - w) out ++ x) end_whole ∙ sym (append_assoc (take (next - w) out) (take w out) text) ∙ ap (λ (x : List ℕ). x ++ text) (sym (still_waits out next 128 e)))
+      (ap (λ (x : List ℕ). take (o.len - p.len) o.room.now ++ x) end_whole ∙ sym (append_assoc (take (o.len - p.len) o.room.now) (take p.len p.room.now) text)
+      ∙ ap (λ (x : List ℕ). x ++ text) (sym (still_waits made)))
       all
 
 -- what is left where none is: less than a record
@@ -176,12 +194,11 @@ first_byte (suc n) [] h = omega arith
 first_byte (suc n) (x ∷ s) h = h
 
 -- while it goes on, less than a record is held
-pub held_short : (ended failed : Bool) (t : Totals) (held : ℕ) (s : List ℕ) → over ended failed t held ≡ false → NoneLeft t (take held s) → held ≤ length s → get_or s 0 0 < 256
+pub held_short : (ended : Bool) (t : Totals) (held : ℕ) (s : List ℕ) → over ended t held ≡ false → NoneLeft t (take held s) → held ≤ length s → get_or s 0 0 < 256
     → held < 256
 unfolding over
-held_short true failed t held s e none h byte = absurd (true≢false e)
-held_short false true t held s e none h byte = absurd (true≢false e)
-held_short false false t held s e none h byte = go (leb max_records t.records) refl (ltb 0 held) refl e
+held_short true t held s e none h byte = absurd (true≢false e)
+held_short false t held s e none h byte = go (leb max_records t.records) refl (ltb 0 held) refl e
   where
     go : (full : Bool) → leb max_records t.records ≡ full → (some : Bool) → ltb 0 held ≡ some → (full && some) ≡ false → held < 256
     go true f true g e = absurd (true≢false e)
@@ -190,30 +207,16 @@ held_short false false t held s e none h byte = go (leb max_records t.records) r
         let short = rest_short t (take held s) none (leb-false max_records t.records f) (first_byte held s byte) in
         omega (arith, short, length-take-le held s h)
 
-drop_past : (n : ℕ) (s : List ℕ) → drop n (take n s) ≡ []
-drop_past zero s = refl
-drop_past (suc n) [] = refl
-drop_past (suc n) (x ∷ s) = drop_past n s
-
 -- nothing is read yet
-pub read_none : (q v : Option (List ℕ)) (t : Totals) (out : List ℕ) → t ≡ no_totals → ReadAndListed q q v v t (buffer out 0) []
+pub read_none : (q v : Option (List ℕ)) (t : Totals) (o : Output ℕ) → t ≡ no_totals → o.len ≡ 0 → ReadAndListed q q v v t (held o) []
 unfolding listing
-read_none q v t out e = subst (λ (u : Totals). ReadAndListed q q v v u (buffer out 0) []) (sym e)
-    (record { log = []; written = []; lists = λ behind. refl; given = consumes_none q; taken = appends_none v })
-
--- A read that fails takes nothing from the reader.
-pub read_failed : (q r s v w : Option (List ℕ)) (t : Totals) (c : Buffer) (held more : ℕ) (before input : List ℕ) → more ≡ held → take held input ≡ take held before → Consumes r s (drop held (take more input))
-    → ReadAndListed q r v w t c (take held before) → ReadAndListed q s v w t c (take held input)
-read_failed q r s v w t c held more before input is same takes l =
-    let none : drop held (take more input) ≡ [] = rw is (drop_past held input) in
-    let none_given : Consumes r s [] = subst (Consumes r s) none takes in
-    subst (ReadAndListed q s v w t c) (sym same) (record {
-      log = l.log;
-      written = l.written;
-      lists = l.lists;
-      given = subst (Consumes q s) (append-nil l.log) (consumes_more q r s l.log [] l.given none_given);
-      taken = l.taken;
-    })
+read_none q v t o e start = record {
+  log = [];
+  written = [];
+  lists = λ behind. rw (e, start) refl;
+  given = consumes_none q;
+  taken = appends_none v;
+}
 
 -- One more piece is read behind the bytes held, and they are listed with it.
 read_split : (input : List ℕ) (held more : ℕ) → held ≤ more → more ≤ length input → take more input ≡ take held input ++ drop held (take more input)
@@ -251,25 +254,24 @@ read_turn q r s v w z t a before input held more u c rest h k same takes done (u
     )
 
 -- why nothing more is to be read
-over_why : (ended failed : Bool) (t : Totals) (held : ℕ) → over ended failed t held ≡ true → failed ≡ false → (ended ≡ true) ⊎ ((max_records ≤ t.records) × (0 < held))
+over_why : (ended : Bool) (t : Totals) (held : ℕ) → over ended t held ≡ true → (ended ≡ true) ⊎ ((max_records ≤ t.records) × (0 < held))
 unfolding over
-over_why true failed t held e ok = inl refl
-over_why false true t held e ok = absurd (true≢false ok)
-over_why false false t held e ok = inr (both (leb max_records t.records) refl (ltb 0 held) refl e)
+over_why true t held e = inl refl
+over_why false t held e = inr (both (leb max_records t.records) refl (ltb 0 held) refl e)
   where
     both : (full : Bool) → leb max_records t.records ≡ full → (some : Bool) → ltb 0 held ≡ some → (full && some) ≡ true → (max_records ≤ t.records) × (0 < held)
     both true f true g e = (leb-true max_records t.records f, ltb-true 0 held g)
     both true f false g e = absurd (true≢false (sym e))
     both false f some g e = absurd (true≢false (sym e))
 
-pub goes_on : (ended failed : Bool) (t : Totals) (held : ℕ) → over ended failed t held ≡ false → ended ≡ false
+pub goes_on : (ended : Bool) (t : Totals) (held : ℕ) → over ended t held ≡ false → ended ≡ false
 unfolding over
-goes_on true failed t held e = absurd (true≢false e)
-goes_on false failed t held e = refl
+goes_on true t held e = absurd (true≢false e)
+goes_on false t held e = refl
 
-pub all_read_once_over : (q r v w : Option (List ℕ)) (t : Totals) (c : Buffer) (rest : List ℕ) (more held n : ℕ) (failed : Bool) → over (nat_eq more held) failed t n ≡ true → failed ≡ false → n ≡ length rest
+pub all_read_once_over : (q r v w : Option (List ℕ)) (t : Totals) (c : Buffer) (rest : List ℕ) (more held n : ℕ) → over (nat_eq more held) t n ≡ true → n ≡ length rest
     → (more ≡ held → IsAtEnd r) → ReadAndListed q r v w t c rest → AllRead q r v w t c rest
-all_read_once_over q r v w t c rest more held n failed e ok long end x = (x, go (over_why (nat_eq more held) failed t n e ok))
+all_read_once_over q r v w t c rest more held n e long end x = (x, go (over_why (nat_eq more held) t n e))
   where
     go : (nat_eq more held ≡ true) ⊎ ((max_records ≤ t.records) × (0 < n)) → ReadToEnd r t rest x.log
     go (inl same) = at_end (end (eqb-true more held same))

@@ -6,7 +6,8 @@ use Rattle.std.specs.declared.option.Option.{Option}
 use Rattle.std.specs.Io.KnownBytes.{Consumes, Appends, IsAtEnd}
 use Rattle.felica_totals.specs.declared.Totals.{Totals}
 use Rattle.felica_put.specs.Put.{Buffer}
-use Rattle.felica_stream.specs.Held.{still_waiting}
+use Rattle.felica_put.specs.declared.Output.{Output}
+use Rattle.felica_stream.specs.Held.{still_waiting, IsWithin}
 use Rattle.felica_log.specs.Listing.{max_records, records_left, listing_from, listing}
 use Rattle.felica_log.specs.Step.{line_room}
 use Rattle.felica_log.specs.Rules.{NoneLeft}
@@ -57,6 +58,11 @@ abbrev pub EndPut : Buffer → List ℕ → List ℕ → Type 0
 EndPut b text after =
     take (still_waiting (length b.bytes) b.next line_room + length text) after ≡ take (still_waiting (length b.bytes) b.next line_room) b.bytes ++ text
 
--- nothing more is to be read: the input has ended, a write failed, or a byte follows the last record that may be read
-unfoldable pub over : Bool → Bool → Totals → ℕ → Bool
-over ended failed t held = ended || (failed || (leb max_records t.records && ltb 0 held))
+-- an output with room for a line, which holds no more than its room
+pub record HasLineRoom (out : Output ℕ) : Type 0 where
+  pub inside : IsWithin out
+  pub line : line_room ≤ length out.room.now
+
+-- nothing more is to be read: the input has ended, or a byte follows the last record that may be read
+unfoldable pub over : Bool → Totals → ℕ → Bool
+over ended t held = ended || (leb max_records t.records && ltb 0 held)

@@ -6,4 +6,5 @@ use Rattle.felica_stream.proofs.read_more.Goals as goal
 
 pub returns-clause-bytes : goal.returns-clause-bytes
 returns-clause-bytes g c =
-    read_behind _ _ c.read-got.result c.args.held c.unwrap_or.result c.args.input.now c.read-got.new.buf _ (omega arith) c.unwrap_or.ensures c.read-got.ensures.bound c.read-got.ensures.bytes
+    let read = c.in_ok-got.ensures in
+    read_behind _ _ c.args.held _ c.args.input.now c.read.new.buf _ (omega arith) read.bound.0 read.bytes.0

@@ -1,21 +1,18 @@
 -- `is_over` meets its contract.
 -- Assumes nothing.
-use borrow.Author.Tests.{lt-leb, le-leb}
+use Rattle.std.proofs.Common.{arith}
+use Rattle.std.proofs.lemmas.Bool.Decides.{nat_tests}
 use Rattle.list_log.specs.Held.{over}
 use Rattle.list_log.proofs.is_over.Goals as goal
 
 pub returns-then-ended : goal.returns-then-ended
 unfolding over
-returns-then-ended c = rw c.if-ended.true
+returns-then-ended c = grind (arith, nat_tests)
 
-pub returns-then-state : goal.returns-then-state
+pub returns-then-totals-ge-MAX_RECORDS : goal.returns-then-totals-ge-MAX_RECORDS
 unfolding over
-returns-then-state c = rw (c.if-ended.false, c.if-state.true)
+returns-then-totals-ge-MAX_RECORDS c = grind (arith, nat_tests)
 
-pub returns-then-state-lt-MAX_RECORDS : goal.returns-then-state-lt-MAX_RECORDS
+pub returns-else-totals-ge-MAX_RECORDS : goal.returns-else-totals-ge-MAX_RECORDS
 unfolding over
-returns-then-state-lt-MAX_RECORDS c = rw (c.if-ended.false, c.if-state.false, lt-leb 1000000 _ c.if-state-lt-MAX_RECORDS.true)
-
-pub returns : goal.returns
-unfolding over
-returns c = rw (c.if-ended.false, c.if-state.false, le-leb 1000000 _ c.if-state-lt-MAX_RECORDS.false)
+returns-else-totals-ge-MAX_RECORDS c = grind (arith, nat_tests)

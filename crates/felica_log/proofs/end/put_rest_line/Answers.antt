@@ -1,22 +1,21 @@
 -- `put_rest_line` meets its contract.
 -- Assumes nothing.
-use mathlib.Core.Path.{refl, sym}
-use Rattle.felica_put.proofs.Laws.{put_same, put_none}
+use Rattle.felica_put.proofs.Laws.{puts_nothing}
 use Rattle.felica_log.proofs.Front.{nothing_left, full_left, whole_left, cut_left}
 use Rattle.felica_log.proofs.end.put_rest_line.Goals as goal
 
-pub returns-then-rest-eq0 : goal.returns-then-rest-eq0
-returns-then-rest-eq0 c = let a = c.args in put_none _ _ (nothing_left a.totals a.rest.now c.if-rest-eq0.true) refl
+pub returns-in_default : goal.returns-in_default
+returns-in_default c = rw (nothing_left c.args.totals c.args.rest.now c.in_default.len_below) puts_nothing
 
 pub returns-then-totals-ge-MAX_RECORDS : goal.returns-then-totals-ge-MAX_RECORDS
-returns-then-totals-ge-MAX_RECORDS c =
-    let a = c.args in
-    put_same _ _ _ c.put_bytes.ensures (sym (full_left a.totals a.rest.now c.if-rest-eq0.false c.if-totals-ge-MAX_RECORDS.true))
+returns-then-totals-ge-MAX_RECORDS c = rw (full_left c.args.totals c.args.rest.now c.in-len1-up.len_at_least c.if-totals-ge-MAX_RECORDS.true) c.put_all.ensures
 
-pub returns-then-size-there : goal.returns-then-size-there
-returns-then-size-there c = let a = c.args in put_none _ _ (whole_left a.totals a.rest.now c.if-rest-eq0.false c.if-totals-ge-MAX_RECORDS.false c.if-size-there.true) refl
+pub returns-then-behind-size : goal.returns-then-behind-size
+returns-then-behind-size c =
+    let cut = rw c.from-size.ensures at c.if-behind-size.true in
+    rw (cut_left c.args.totals c.args.rest.now c.in-len1-up.len_at_least c.if-totals-ge-MAX_RECORDS.false cut) (rw c.from-size.ensures at c.put_cut_line.ensures)
 
-pub returns : goal.returns
-returns c =
-    let a = c.args in
-    put_same _ _ _ c.put_cut_line.ensures (sym (cut_left a.totals a.rest.now c.if-rest-eq0.false c.if-totals-ge-MAX_RECORDS.false c.if-size-there.false))
+pub returns-else-behind-size : goal.returns-else-behind-size
+returns-else-behind-size c =
+    let whole = rw c.from-size.ensures at c.if-behind-size.false in
+    rw (whole_left c.args.totals c.args.rest.now c.in-len1-up.len_at_least c.if-totals-ge-MAX_RECORDS.false whole) puts_nothing

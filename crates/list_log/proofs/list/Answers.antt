@@ -1,0 +1,10 @@
+-- `list` meets its contract: all is read, and its listing is written.
+-- Assumes nothing.
+use Rattle.felica_put.specs.Output.{held}
+use Rattle.list_log.proofs.Held.{on_ok, ok_as, takes_listing}
+use Rattle.list_log.proofs.list.Goals as goal
+
+pub returns : goal.returns
+returns g c =
+    let fed = c.in_ok-held.ensures in
+    ok_as _ _ _ c.map_err.ensures.variant (on_ok _ (takes_listing _ _ _ _ _ _ (held c.feed.new.out) _ fed.none_left fed.all) c.finish.ensures.bytes)
