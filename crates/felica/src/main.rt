@@ -1,7 +1,7 @@
 // Answers calls: reads them on standard input, a line each, and writes a line for each to standard output.
 #![tactic(auto)]
 
-ghost use Rattle.std.specs.Prelude.{◌≡◌, ◌≤◌, length, IfOk};
+ghost use Rattle.std.specs.Prelude.{◌≡◌, ◌≤◌, ◌<◌, length, IfSome, IfOk};
 ghost use Rattle.felica_put.specs.Output.{held};
 ghost use Rattle.felica_stream.specs.Held.{IsWithin};
 ghost use Rattle.felica_calls.specs.Call.{read_call};
@@ -15,7 +15,6 @@ use felica_calls::fault::{Fault, put_fault};
 use felica_calls::write::behind_code;
 use felica_put::Output;
 use felica_stream::{keep_rest, make_room, read_more};
-use felica_text::find::find;
 use felica_writing::answer_write;
 use lists::answer_list;
 use parse::{answer_long, answer_parse};
@@ -50,6 +49,13 @@ fn answer_line(line: &[u8], bytes: &mut [u8], out: &mut Output<u8>)
     out.put(b'\n');
 }
 
+// Where the line feed of the first line stands, if it has one.
+fn line_end(text: &[u8]) -> Option<usize>
+    ensures { IfSome result (λ end. end < length text.now) }
+{
+    text.iter().position(|byte| *byte == b'\n')
+}
+
 // Answers the whole lines of `input`, and says how long the rest of it is.
 fn answer_lines<W: Write>(
     writer: &mut W,
@@ -62,7 +68,7 @@ fn answer_lines<W: Write>(
     ensures rest { IfOk result (λ rest. rest ≤ length input.now) }
 {
     let mut rest = input;
-    while let Some(end) = rest.iter().position(|byte| *byte == b'\n') {
+    while let Some(end) = line_end(rest) {
         make_room(writer, out, ANSWER_ROOM)?;
         answer_line(&rest[..end], bytes, out);
         rest = &rest[end + 1..];
@@ -80,11 +86,9 @@ fn skip_line<R: Read>(reader: &mut R, input: &mut [u8]) -> usize
         if more == 0 {
             return 0;
         }
-        let end = find(&input[..more], b'\n');
-        if end < more {
-            let from = end + 1;
-            keep_rest(input, from, more);
-            return more - from;
+        if let Some(end) = line_end(&input[..more]) {
+            keep_rest(input, end + 1, more);
+            return more - (end + 1);
         }
     }
     0

@@ -1,12 +1,11 @@
 -- `felica::answer_lines` stays within the input and the output.
 -- Assumes nothing.
-use Prim.Native.Nat.{◌-◌, ◌≤◌}
-use mathlib.Core.Path.{◌≡◌}
-use lib.ListN.{length}
+use Rattle.std.proofs.Common.{◌≤◌, length}
+use Rattle.felica_stream.specs.Held.{IsWithin}
 use Rattle.felica.proofs.answer_lines.Given as goal
 
-abbrev pub invariant-loop-from : goal.invariant-loop-from
-invariant-loop-from g l = (l.from ≤ length l.input) × (l.next ≤ length l.out) × (length l.bytes ≡ length l.initial.bytes) × (length l.out ≡ length l.initial.out)
+abbrev pub invariant-loop-end : goal.invariant-loop-end
+invariant-loop-end g l = record { within : IsWithin l.out; rest : length l.rest ≤ length l.input }
 
-abbrev pub decreases-loop-from : goal.decreases-loop-from
-decreases-loop-from g l = length l.input - l.from
+abbrev pub decreases-loop-end : goal.decreases-loop-end
+decreases-loop-end g l = length l.rest

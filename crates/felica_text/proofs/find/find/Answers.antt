@@ -1,9 +1,8 @@
 -- `felica_text::find::find` meets its contract.
 -- Assumes nothing.
-use Rattle.std.proofs.Common.{rules, ap, ◌∙◌, length, unwrap_or, ◌==◌}
+use Rattle.std.proofs.Common.{rules, tests, ap, ◌∙◌, length, unwrap_or, ◌==◌}
 use Rattle.std.proofs.lemmas.Iterator.{YieldsList-from_slice}
 use Rattle.std.proofs.lemmas.Iterator.Search.{position_from_yields_List}
-use borrow.Author.Tests.{tests}
 use Rattle.felica_text.proofs.Before.{before_found}
 use Rattle.felica_text.proofs.find.find.Goals as goal
 
