@@ -92,7 +92,11 @@ fn put_elements(
     places: &[u8],
     modes: &[u8],
 )
-    requires { (length numbers.now ≤ 255) × (length places.now ≡ length numbers.now) × (length modes.now ≡ length numbers.now) × (all_below 16 places.now ≡ true) × (all_below 8 modes.now ≡ true) }
+    requires few { length numbers.now ≤ 255 }
+    requires places_long { length places.now ≡ length numbers.now }
+    requires modes_long { length modes.now ≡ length numbers.now }
+    requires places_small { all_below 16 places.now ≡ true }
+    requires modes_small { all_below 8 modes.now ≡ true }
     ensures { Puts out.old out.new (elements_bytes present [] (zip_elements numbers.now places.now modes.now)) }
 {
     if !present {
@@ -106,7 +110,8 @@ fn put_elements(
 
 // One element in its shortest form: bit 7 of its first byte says that one byte of block number follows.
 fn put_element(out: &mut Output<'_, u8>, number: u16, place: u8, mode: u8)
-    requires { (place < 16) × (mode < 8) }
+    requires place_small { place < 16 }
+    requires mode_small { mode < 8 }
     ensures { Puts out.old out.new (element_bytes false (element number place mode)) }
 {
     let head = 16 * mode + place;

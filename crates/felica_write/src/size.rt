@@ -14,7 +14,8 @@ use felica_writable::handed::Handed;
 // All but the package: 5,893 bytes at most, so that sums with it are safe.
 pub(crate) fn body_size(layout: Layout, command: Handed<'_>) -> usize
     requires { Ready (layout_meant layout) (handed_by command) }
-    ensures { (result ≡ front_size (layout_meant layout) (length command.entry.first.now) (length command.entry.second.now) command.entry.numbers.now (length command.entry.data.now)) × (result ≤ 6000) }
+    ensures size { result ≡ front_size (layout_meant layout) (length command.entry.first.now) (length command.entry.second.now) command.entry.numbers.now (length command.entry.data.now) }
+    ensures bound { result ≤ 6000 }
 {
     let lists = codes_size(layout.first, command.first.len())
         + codes_size(layout.second, command.second.len());
@@ -27,13 +28,15 @@ pub(crate) fn body_size(layout: Layout, command: Handed<'_>) -> usize
 }
 
 fn size_if(present: bool, size: usize) -> usize
-    ensures { (result ≡ cond present size 0) × (result ≤ size) }
+    ensures chosen { result ≡ cond present size 0 }
+    ensures bound { result ≤ size }
 {
     if present { size } else { 0 }
 }
 
 fn selector_size(selector: Option<Selector>) -> usize
-    ensures { (result ≡ selector_size (selector_meant selector)) × (result ≤ 1) }
+    ensures size { result ≡ selector_size (selector_meant selector) }
+    ensures bound { result ≤ 1 }
 {
     match selector {
         None => 0,
@@ -43,7 +46,8 @@ fn selector_size(selector: Option<Selector>) -> usize
 
 fn codes_size(codes: Option<Bounds>, count: usize) -> usize
     requires { count ≤ 255 }
-    ensures { (result ≡ codes_size (codes_meant codes) count) × (result ≤ 511) }
+    ensures size { result ≡ codes_size (codes_meant codes) count }
+    ensures bound { result ≤ 511 }
 {
     match codes {
         None => 0,

@@ -8,7 +8,15 @@ pub returns-then-not-present : goal.returns-then-not-present
 returns-then-not-present c = let a = c.args in grind (arith, known_tests, lists_test a.present, all_small 65536 a.numbers.now (λ i. (c.type_inv.numbers i).fits))
 
 pub returns-then-all_below : goal.returns-then-all_below
-returns-then-all_below c = let a = c.args in grind (arith, and_true, and_false, lists_test a.present, all_small 65536 a.numbers.now (λ i. (c.type_inv.numbers i).fits))
+returns-then-all_below c =
+    let a = c.args in
+    let numbers_small = all_small 65536 a.numbers.now (λ i. (c.type_inv.numbers i).fits) in
+    let e = lists_test a.present a.numbers.now a.places.now a.modes.now c.if-places-count.false c.if-modes-count.false numbers_small in
+    grind (arith, and_true, and_false)
 
 pub returns-else-all_below : goal.returns-else-all_below
-returns-else-all_below c = let a = c.args in grind (arith, and_true, and_false, lists_test a.present, all_small 65536 a.numbers.now (λ i. (c.type_inv.numbers i).fits))
+returns-else-all_below c =
+    let a = c.args in
+    let numbers_small = all_small 65536 a.numbers.now (λ i. (c.type_inv.numbers i).fits) in
+    let e = lists_test a.present a.numbers.now a.places.now a.modes.now c.if-places-count.false c.if-modes-count.false numbers_small in
+    grind (arith, and_true, and_false)

@@ -20,7 +20,10 @@ loop-i-init c = puts_nothing
 pub put_element-requires : goal.put_element-requires
 put_element-requires c =
     let i = c.loop-i.i in
-    (small_at 16 c.args.places.now i (omega arith) c.requires.3, small_at 8 c.args.modes.now i (omega arith) c.requires.4)
+    record {
+      place_small = small_at 16 c.args.places.now i (omega arith) c.requires.places_small;
+      mode_small = small_at 8 c.args.modes.now i (omega arith) c.requires.modes_small;
+    }
 
 pub loop-i-preserved : goal.loop-i-preserved
 unfolding each_bytes
