@@ -1,6 +1,6 @@
 -- Numbers of a list put on a walk along its text.
 -- Assumes nothing.
-use Rattle.std.proofs.Common.{ℕ, ◌+◌, ◌*◌, ◌%◌, ◌≤◌, ◌<◌, ◌≡◌, ap, sym, ◌∙◌, List, [], ◌∷◌, map, length, get_or, drop, eq-eqb, ne_eqb, arith}
+use Rattle.std.proofs.Common.{ℕ, ◌+◌, ◌*◌, ◌%◌, ◌≤◌, ◌<◌, ◌≡◌, ◌∙◌, List, [], ◌∷◌, map, length, get_or, drop, eq-eqb, ne_eqb, arith}
 use Rattle.std.proofs.Math.Nat.{mod-lt}
 use Rattle.std.proofs.Math.ListN.{drop_of_length-le}
 use Rattle.felica_put.specs.Put.{BufferOf, put}

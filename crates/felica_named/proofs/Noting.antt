@@ -1,6 +1,6 @@
 -- Fields noted on a walk along the text.
 -- Assumes nothing.
-use Rattle.std.proofs.Common.{ℕ, zero, suc, ◌+◌, ◌≤◌, ◌<◌, ◌≡◌, refl, sym, ◌∙◌, ap, List, length, drop, length-drop, arith}
+use Rattle.std.proofs.Common.{ℕ, zero, suc, ◌+◌, ◌≤◌, ◌<◌, ◌≡◌, refl, sym, ◌∙◌, List, length, drop, length-drop, arith}
 use Rattle.std.specs.Prelude.{Result, Ok, Err}
 use Rattle.std.proofs.lemmas.Bool.{le-leb, lt-leb}
 use Rattle.std.proofs.lemmas.List.{length-take-le}
@@ -8,7 +8,7 @@ use Rattle.felica_text.specs.Text.{before}
 use Rattle.felica_calls.specs.Read.{◌>>=◌}
 use Rattle.felica_calls.specs.declared.fault.Fault.{Fault}
 use Rattle.felica_calls.proofs.Reading.{before_within}
-use Rattle.felica_named.specs.Notes.{Starts, noted, field_at, note, note_from}
+use Rattle.felica_named.specs.Notes.{Starts, field_at, note, note_from}
 
 -- a field is within the text, and has at least the space
 pub record Inside (s : List ℕ) (at n : ℕ) : Type 0 where

@@ -1,7 +1,7 @@
 -- What the writer is handed, by the command code and the fields named.
 -- Assumes nothing.
-use Rattle.std.specs.Prelude.{ℕ, ◌+◌, Bool, true, false, not, cond, ◌||◌, List, [], ◌∷◌, ◌++◌, length, take, drop, eqb, Option, None, Some}
-use Rattle.felica_format.specs.Basic.{◌and◌, zeros}
+use Rattle.std.specs.Prelude.{ℕ, ◌+◌, Bool, true, false, not, cond, List, [], ◌∷◌, ◌++◌, take, drop, eqb, Option, None, Some}
+use Rattle.felica_format.specs.Basic.{zeros}
 use Rattle.felica_format.specs.Command.{Command}
 use Rattle.felica_command.specs.Handed.{handed}
 use Rattle.felica_command.specs.declared.fixed.Fixed.{Fixed}

@@ -57,7 +57,13 @@ fn note(table: &[u8], field: &[u8], at: usize, starts: &mut [Option<usize>]) -> 
         return Err(Fault::UnknownField);
     };
     let form = form_of(table, place, behind);
-    note_value(form, slot_of(form, place, value), value, at + behind, starts)
+    note_value(
+        form,
+        slot_of(form, place, value),
+        value,
+        at + behind,
+        starts,
+    )
 }
 
 fn form_of(table: &[u8], place: usize, behind: usize) -> Option<Form>

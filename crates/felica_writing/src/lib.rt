@@ -14,10 +14,8 @@ ghost use Rattle.felica_writing.specs.Answer.{write_answer};
 use felica_answers::written::put_written;
 use felica_calls::fault::{Fault, put_fault};
 use felica_calls::write::MAX_ROOM;
-use felica_named::fixed::fixed_named;
-use felica_named::lists::{bytes_named, small_named, words_named};
-use felica_named::names::{DATA, FIRST, MODES, NAMES, NUMBERS, PACKAGE, PLACES, SECOND};
-use felica_named::notes::{Noted, note_fields};
+use felica_named::names::Field;
+use felica_named::notes::Named;
 use felica_put::Output;
 use felica_write::write;
 
@@ -29,6 +27,7 @@ const MAX_SMALL: usize = 2560;
 const MAX_BYTES: usize = 16384;
 
 // The fields stand in `text`, behind the command code.
+#[tactic(auto, unfolding(crate::specs::Answer::write_answer))]
 pub fn answer_write(size: usize, code: u8, text: &[u8], out: &mut [u8], at: usize) -> usize
     ensures { buffer out.new result ≡ put (buffer out.old at) (write_answer size code text.now) }
 {
@@ -36,11 +35,9 @@ pub fn answer_write(size: usize, code: u8, text: &[u8], out: &mut [u8], at: usiz
     if MAX_ROOM < size {
         return answer_fault(Fault::BufferTooLong, out, at);
     }
-    let mut starts = [0usize; NAMES];
-    let noted = note_fields(text, &mut starts);
-    match noted {
-        Noted::Whole => answer_named(size, code, text, &starts, out, at),
-        Noted::Wrong(fault) => answer_fault(fault, out, at),
+    match Named::read(text) {
+        Ok(named) => answer_named(size, code, &named, out, at),
+        Err(fault) => answer_fault(fault, out, at),
     }
 }
 
@@ -52,16 +49,9 @@ fn answer_fault(fault: Fault, out: &mut [u8], at: usize) -> usize
     output.len
 }
 
-fn answer_named(
-    size: usize,
-    code: u8,
-    text: &[u8],
-    starts: &[usize],
-    out: &mut [u8],
-    at: usize,
-) -> usize
+fn answer_named(size: usize, code: u8, named: &Named, out: &mut [u8], at: usize) -> usize
     requires { size ≤ max_room }
-    ensures { buffer out.new result ≡ put (buffer out.old at) (written_line (writing (command_named code text.now starts.now) (zeros size))) }
+    ensures { buffer out.new result ≡ put (buffer out.old at) (written_line (writing (command_named code named.now.text.now named.now.starts) (zeros size))) }
 {
     let mut first = [0u16; MAX_WORDS];
     let mut second = [0u16; MAX_WORDS];
@@ -73,8 +63,7 @@ fn answer_named(
     let mut room = [0u8; MAX_ROOM];
     answer_from(
         code,
-        text,
-        starts,
+        named,
         &mut first,
         &mut second,
         &mut numbers,
@@ -91,8 +80,7 @@ fn answer_named(
 // The same, in buffers that are lent for what the writer takes and for what it writes.
 fn answer_from(
     code: u8,
-    text: &[u8],
-    starts: &[usize],
+    named: &Named,
     first: &mut [u16],
     second: &mut [u16],
     numbers: &mut [u16],
@@ -104,25 +92,32 @@ fn answer_from(
     out: &mut [u8],
     at: usize,
 ) -> usize
-    ensures { buffer out.new result ≡ put (buffer out.old at) (written_line (writing (command_over code text.now starts.now first.old second.old numbers.old places.old modes.old «data».old «package».old) room.old)) }
+    ensures { buffer out.new result ≡ put (buffer out.old at) (written_line (writing (command_over code named.now.text.now named.now.starts first.old second.old numbers.old places.old modes.old «data».old «package».old) room.old)) }
 {
-    let first_end = words_named(text, starts, FIRST, first);
-    let second_end = words_named(text, starts, SECOND, second);
-    let numbers_end = words_named(text, starts, NUMBERS, numbers);
-    let places_end = small_named(text, starts, PLACES, places);
-    let modes_end = small_named(text, starts, MODES, modes);
-    let data_end = bytes_named(text, starts, DATA, data);
-    let package_end = bytes_named(text, starts, PACKAGE, package);
+    let mut first = Output::new(first);
+    named.numbers(Field::First, &mut first);
+    let mut second = Output::new(second);
+    named.numbers(Field::Second, &mut second);
+    let mut numbers = Output::new(numbers);
+    named.numbers(Field::Numbers, &mut numbers);
+    let mut places = Output::new(places);
+    named.numbers(Field::Places, &mut places);
+    let mut modes = Output::new(modes);
+    named.numbers(Field::Modes, &mut modes);
+    let mut data = Output::new(data);
+    named.bytes(Field::Data, &mut data);
+    let mut package = Output::new(package);
+    named.bytes(Field::Package, &mut package);
     let written = write(
         code,
-        fixed_named(code, text, starts),
-        &first[..first_end],
-        &second[..second_end],
-        &numbers[..numbers_end],
-        &places[..places_end],
-        &modes[..modes_end],
-        &data[..data_end],
-        &package[..package_end],
+        named.fixed(code),
+        first.filled(),
+        second.filled(),
+        numbers.filled(),
+        places.filled(),
+        modes.filled(),
+        data.filled(),
+        package.filled(),
         room,
     );
     put_written(out, at, written, room)

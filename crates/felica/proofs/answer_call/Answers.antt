@@ -1,10 +1,9 @@
 -- `felica::answer_call` answers what the line calls for.
 -- Assumes nothing.
-use Rattle.std.proofs.Common.{◌≡◌, ℕ, List, sym, ap, ◌∙◌, subst, rules, take, length}
-use Rattle.std.specs.Prelude.{Result, Ok, Err}
+use Rattle.std.proofs.Common.{◌≡◌, ℕ, List, sym, subst, rules}
+use Rattle.std.specs.Prelude.{Result}
 use Rattle.std.proofs.lemmas.List.{length-take-le}
-use Rattle.felica_put.specs.Put.{Buffer, buffer, put}
-use Rattle.felica_calls.specs.Fault.{fault_text}
+use Rattle.felica_put.specs.Put.{Buffer}
 use Rattle.felica_calls.specs.Read.{Read, read}
 use Rattle.felica_calls.specs.declared.call.Call.{Call}
 use Rattle.felica_calls.specs.declared.fault.Fault.{Fault}

@@ -1,6 +1,6 @@
 -- `felica_writing::answer_named` meets its contract.
 -- Assumes nothing.
-use mathlib.Core.Path.{ap, ◌∙◌}
+use Rattle.std.proofs.Common.{ap, ◌∙◌}
 use Rattle.felica_put.specs.Put.{buffer, put}
 use Rattle.felica_named.specs.Handed.{command_named}
 use Rattle.felica_write.specs.Writing.{writing}
@@ -13,4 +13,4 @@ slice_bounds-answer_from-end-8 c = zeros_taken c.args.size 16384 c.requires
 
 pub returns : goal.returns
 returns c = let a = c.args in
-    c.answer_from.ensures ∙ ap (λ l. put (buffer a.out.now a.at) (written_line (writing (command_named a.code a.text.now a.starts.now) l))) (take_zeros a.size 16384 c.requires)
+    c.answer_from.ensures ∙ ap (λ l. put (buffer a.out.now a.at) (written_line (writing (command_named a.code a.named.now.text.now a.named.now.starts) l))) (take_zeros a.size 16384 c.requires)

@@ -1,6 +1,6 @@
 -- `felica_named::form::are_entries` meets its contract: what is left to look at decides.
 -- Assumes nothing.
-use Rattle.std.proofs.Common.{ap, sym, ◌∙◌, arith}
+use Rattle.std.proofs.Common.{sym, ◌∙◌, arith}
 use Rattle.felica_named.proofs.Entries.{entry_bad, entry_next, entry_none, entry_digit, entry_end}
 use Rattle.felica_named.proofs.form.are_entries.Goals as goal
 use Rattle.felica_named.proofs.form.are_entries.Goals.{then-byte-eq44+else-not-is_entry, else-byte-eq44+in_default}
@@ -16,11 +16,11 @@ returns-in-NoDigit c = let l = c.loop-byte in
 pub loop-byte-preserved : goal.loop-byte-preserved
 loop-byte-preserved c = let l = c.loop-byte in
     elim c.if-byte-eq44.branch [
-      then-byte-eq44+else-not-is_entry w ↦ record {
+      | then-byte-eq44+else-not-is_entry w ↦ record {
         few = omega (arith, w.count-is);
         same = rw w.count-is (sym (entry_next _ _ _ _ _ c.loop-byte-test.true w.if-byte-eq44.true (sym w.is_entry.ensures ∙ w.if-not-is_entry.false)) ∙ l.invariant.same);
       }
-    | else-byte-eq44+in_default w ↦ record {
+      | else-byte-eq44+in_default w ↦ record {
         few = omega (arith, w.count-is);
         same = rw w.count-is (sym (entry_digit _ _ _ _ _ c.loop-byte-test.true w.if-byte-eq44.false (sym w.digit_value.ensures ∙ w.in_default.is)) ∙ l.invariant.same);
       }

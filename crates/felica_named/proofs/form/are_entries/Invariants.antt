@@ -7,5 +7,5 @@ use Rattle.felica_named.proofs.form.are_entries.Given as goal
 abbrev pub invariant-loop-byte : goal.invariant-loop-byte
 invariant-loop-byte l = record {
   few : l.count ≤ l.byte-index;
-  same : entries l.least l.most l.count (drop l.byte-index l.value) ≡ entries l.least l.most 0 l.value
+  same : entries l.least l.most l.count (drop l.byte-index l.value) ≡ entries l.least l.most 0 l.value;
 }

@@ -11,5 +11,5 @@ invariant-loop-digit g l = record {
   small : l.number < 16 * g.T.Number.KEPT;
   same_reference : l.numbers.room.ghost_name ≡ l.fn.numbers.room.ghost_name;
   held : put (held l.numbers) (map g.T.Number.number (numbers_from g.T.Number.KEPT l.number (drop l.digit-index l.value)))
-      ≡ put (held l.fn.numbers) (map g.T.Number.number (numbers_from g.T.Number.KEPT 0 l.value))
+      ≡ put (held l.fn.numbers) (map g.T.Number.number (numbers_from g.T.Number.KEPT 0 l.value));
 }

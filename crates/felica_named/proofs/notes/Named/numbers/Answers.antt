@@ -1,9 +1,9 @@
 -- `felica_named::notes::Named::numbers` meets its contract.
 -- Assumes nothing.
-use Rattle.std.proofs.Common.{◌≡◌, [], true, length, eq-eqb, ne_eqb, rules}
+use Rattle.std.proofs.Common.{◌≡◌, true, length, eq-eqb, ne_eqb, rules}
 use Rattle.felica_put.proofs.Laws.{puts_nothing}
 use Rattle.felica_calls.specs.Field.{is_byte}
-use Rattle.felica_named.specs.Values.{value_named, numbers_in}
+use Rattle.felica_named.specs.Values.{value_named}
 use Rattle.felica_named.proofs.notes.Named.numbers.Goals as goal
 
 pub returns-then-is_empty : goal.returns-then-is_empty
