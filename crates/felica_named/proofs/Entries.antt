@@ -1,11 +1,7 @@
 -- Entries of a list on a walk along its text.
 -- Assumes nothing.
-use mathlib.Core.Path.{◌≡◌}
-use mathlib.Core.Bool.{true, false}
-use mathlib.Core.List.{List}
-use Prim.Native.Nat.{ℕ, ◌+◌, ◌≤◌, ◌<◌}
-use lib.ListN.{length, get_or, drop, drop_of_length-le}
-use borrow.Author.Tests.{eq-eqb, ne_eqb}
+use Rattle.std.proofs.Common.{ℕ, ◌+◌, ◌≤◌, ◌<◌, ◌≡◌, true, false, List, length, get_or, drop, eq-eqb, ne_eqb}
+use Rattle.std.proofs.Math.ListN.{drop_of_length-le}
 use Rattle.felica_format.specs.Basic.{◌and◌}
 use Rattle.felica_put.proofs.Laws.{drop_next}
 use Rattle.felica_text.specs.Text.{digit_of}

@@ -3,4 +3,3 @@ pub mod Entries
 pub mod Digits
 pub mod Noting
 pub mod Strays
-pub mod Fields

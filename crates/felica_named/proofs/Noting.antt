@@ -1,19 +1,14 @@
 -- Fields noted on a walk along the text.
 -- Assumes nothing.
-use mathlib.Core.Path.{◌≡◌, refl, sym, ap, ◌∙◌}
-use mathlib.Core.List.{List}
-use Prim.Native.Nat.{ℕ, zero, suc, ◌+◌, ◌≤◌, ◌<◌}
-use native.Mathlib.Omega.{arith}
-use lib.ListN.{length, take, drop, length-drop}
-use lib.Seq.{length-take-le}
-use borrow.Author.Tests.{le-leb, lt-leb}
+use Rattle.std.proofs.Common.{ℕ, zero, suc, ◌+◌, ◌≤◌, ◌<◌, ◌≡◌, refl, sym, ◌∙◌, List, length, drop, length-drop, arith}
+use Rattle.std.specs.Prelude.{Result, Ok, Err}
+use Rattle.std.proofs.lemmas.Bool.{le-leb, lt-leb}
+use Rattle.std.proofs.lemmas.List.{length-take-le}
 use Rattle.felica_text.specs.Text.{before}
+use Rattle.felica_calls.specs.Read.{◌>>=◌}
 use Rattle.felica_calls.specs.declared.fault.Fault.{Fault}
 use Rattle.felica_calls.proofs.Reading.{before_within}
-use Rattle.felica_named.specs.Names.{place_in}
-use Rattle.felica_named.specs.Notes.{Notes, notes, field_at, name_end, form_of, slot_of, note_value, note, onward, note_from}
-use Rattle.felica_named.specs.declared.notes.Noted.{Noted}
-use Rattle.felica_named.specs.declared.notes.Noted.TheVariants.{Whole, Wrong}
+use Rattle.felica_named.specs.Notes.{Starts, field_at, note, note_from}
 
 -- a field is within the text, and has at least the space
 pub record Inside (s : List ℕ) (at n : ℕ) : Type 0 where
@@ -29,37 +24,44 @@ field_inside s at h =
       inside = omega (arith, e, before_within 32 (drop (at + 1) s), length-drop (at + 1) s);
     }
 
--- a name with `=` behind it, by what was found of it
-pub note_named : (table field : List ℕ) (at : ℕ) (starts : List ℕ) {e place form slot : ℕ} {value : List ℕ} → e ≡ name_end field → e < length field
-    → value ≡ drop (e + 1) field → place ≡ place_in (take (e + 1) field) table → form ≡ form_of table place (e + 1) → slot ≡ slot_of form place value
-    → note_value form slot value (at + (e + 1)) starts ≡ note table field at starts
-unfolding note
-note_named table field at starts named h is found formed slotted =
-    rw (slotted, formed, found, is, named, lt-leb _ _ (rw named at h))
+-- the walk from here on gives what it gives from the start
+pub record Walks (table s : List ℕ) (at : ℕ) (starts : Starts) (all : Result Starts Fault) : Type 0 where
+  pub turns : ℕ
+  pub room : length s ≤ at + turns
+  pub same : note_from turns table s at starts ≡ all
 
-module _ (table s : List ℕ) (at : ℕ) (starts : List ℕ) where
-  note_step : (turns : ℕ) → at < length s
-      → note_from (suc turns) table s at starts
-      ≡ onward (note_from turns table s (at + length (field_at s at))) (note table (field_at s at) at starts)
+module _ (table s : List ℕ) (at : ℕ) (starts : Starts) where
+  walk_step : (turns : ℕ) → at < length s
+      → note_from (suc turns) table s at starts ≡ (note table (field_at s at) at starts >>= note_from turns table s (at + length (field_at s at)))
   unfolding note_from
-  note_step turns h = rw (lt-leb _ _ h)
+  walk_step turns h = rw (lt-leb _ _ h)
 
-  pub note_end : (turns : ℕ) → length s ≤ at → note_from turns table s at starts ≡ notes Whole starts
+  none_left : (turns : ℕ) → length s ≤ at → note_from turns table s at starts ≡ Ok starts
   unfolding note_from
-  note_end zero h = refl
-  note_end (suc turns) h = rw (le-leb _ _ h)
+  none_left zero h = refl
+  none_left (suc turns) h = rw (le-leb _ _ h)
 
-  module _ {r : Noted} {after : List ℕ} (is : notes r after ≡ note table (field_at s at) at starts) (h : at < length s) where
-    pub note_wrong : (turns : ℕ) {fault : Fault} → length s ≤ at + turns → r ≡ Wrong fault → notes r after ≡ note_from turns table s at starts
-    note_wrong zero room e = absurd (omega arith)
-    note_wrong (suc turns) room e =
-        let go = onward (note_from turns table s (at + length (field_at s at))) in
-        ap (λ a. notes a after) e ∙ sym (note_step turns h ∙ ap go (sym is ∙ ap (λ a. notes a after) e))
+  pub walk_end : {all : Result Starts Fault} → Walks table s at starts all → length s ≤ at → all ≡ Ok starts
+  walk_end w h = sym w.same ∙ none_left w.turns h
 
-    -- the fields behind it are left
-    pub note_more : (turns : ℕ) {all : Notes} → length s ≤ at + turns → r ≡ Whole → note_from turns table s at starts ≡ all
-        → (left : ℕ) × (length s ≤ at + length (field_at s at) + left) × (note_from left table s (at + length (field_at s at)) after ≡ all)
-    note_more zero room e same = absurd (omega arith)
-    note_more (suc turns) room e same =
-        let go = onward (note_from turns table s (at + length (field_at s at))) in
-        (turns, omega (arith, (field_inside s at h).some), sym (note_step turns h ∙ ap go (sym is ∙ ap (λ a. notes a after) e)) ∙ same)
+  wrong_after : {all : Result Starts Fault} {fault : Fault} → note table (field_at s at) at starts ≡ Err fault → at < length s → (turns : ℕ) → length s ≤ at + turns
+      → note_from turns table s at starts ≡ all → all ≡ Err fault
+  wrong_after is h zero room same = absurd (omega arith)
+  wrong_after is h (suc turns) room same = sym same ∙ walk_step turns h ∙ rw is
+
+  pub walk_wrong : {all : Result Starts Fault} {fault : Fault} → note table (field_at s at) at starts ≡ Err fault → at < length s → Walks table s at starts all → all ≡ Err fault
+  walk_wrong is h w = wrong_after is h w.turns w.room w.same
+
+  -- the fields behind it are left
+  left_after : {all : Result Starts Fault} {after : Starts} → note table (field_at s at) at starts ≡ Ok after → at < length s → (turns : ℕ) → length s ≤ at + turns
+      → note_from turns table s at starts ≡ all → Walks table s (at + length (field_at s at)) after all
+  left_after is h zero room same = absurd (omega arith)
+  left_after is h (suc turns) room same = record {
+    turns = turns;
+    room = omega (arith, (field_inside s at h).some);
+    same = sym (walk_step turns h ∙ rw is) ∙ same;
+  }
+
+  pub walk_on : {all : Result Starts Fault} {after : Starts} → note table (field_at s at) at starts ≡ Ok after → at < length s → Walks table s at starts all
+      → Walks table s (at + length (field_at s at)) after all
+  walk_on is h w = left_after is h w.turns w.room w.same

@@ -1,11 +1,13 @@
 -- Which values are well formed, by the form that stands behind the name.
 -- Assumes nothing.
-use Rattle.std.specs.Prelude.{ℕ, ◌+◌, ◌%◌, Bool, true, false, cond, List, [], ◌∷◌, length, leb, eqb}
+use Rattle.std.specs.Prelude.{ℕ, ◌+◌, ◌*◌, ◌%◌, Bool, true, false, cond, List, [], ◌∷◌, length, leb, eqb, Option, None, Some}
 use Prim.Native.Char.{code}
 use Rattle.felica_format.specs.Basic.{◌and◌}
 use Rattle.felica_text.specs.Text.{digit_of}
 use Rattle.felica_calls.specs.Field.{is_byte}
 use Rattle.felica_calls.specs.Bytes.{is_digit, all_digits}
+use Rattle.felica_named.specs.declared.form.Form.{Form}
+use Rattle.felica_named.specs.declared.form.Form.TheVariants.{Bytes, Challenge, Words, Numbers, AnyBytes}
 
 -- so many hexadecimal digits
 abbrev pub has_digits : ℕ → List ℕ → Bool
@@ -33,17 +35,29 @@ entries least most k (d ∷ ds) =
 abbrev pub is_list : ℕ → ℕ → List ℕ → Bool
 is_list least most s = cond (is_byte (code "-") s) true (entries least most 0 s)
 
-unfoldable pub well_formed : ℕ → List ℕ → Bool
-well_formed form s =
-    cond (eqb form (code "1")) (has_digits 2 s)
-    (cond (eqb form (code "2")) (has_digits 4 s)
-    (cond (eqb form (code "8")) (has_digits 16 s)
-    (cond (eqb form (code "C")) (challenge_form s)
-    (cond (eqb form (code "W")) (is_list 4 4 s)
-    (cond (eqb form (code "N")) (is_list 1 2 s)
-    (cond (eqb form (code "B")) (is_bytes s)
-    false))))))
+-- the form that a letter or digit stands for
+unfoldable pub form_of_letter : ℕ → Option Form
+form_of_letter letter =
+    cond (eqb letter (code "1")) (Some (Bytes 1))
+    (cond (eqb letter (code "2")) (Some (Bytes 2))
+    (cond (eqb letter (code "8")) (Some (Bytes 8))
+    (cond (eqb letter (code "C")) (Some Challenge)
+    (cond (eqb letter (code "W")) (Some Words)
+    (cond (eqb letter (code "N")) (Some Numbers)
+    (cond (eqb letter (code "B")) (Some AnyBytes)
+    None))))))
+
+unfoldable pub well_formed : Form → List ℕ → Bool
+well_formed (Bytes n) s = has_digits (2 * n) s
+well_formed Challenge s = challenge_form s
+well_formed Words s = is_list 4 4 s
+well_formed Numbers s = is_list 1 2 s
+well_formed AnyBytes s = is_bytes s
 
 -- the length of the longest value: 16384 bytes, or 1024 words with the commas between them
-abbrev pub longest : ℕ → ℕ
-longest form = cond (eqb form (code "B")) 32768 5119
+abbrev pub longest : Form → ℕ
+longest AnyBytes = 32768
+longest (Bytes n) = 5119
+longest Challenge = 5119
+longest Words = 5119
+longest Numbers = 5119

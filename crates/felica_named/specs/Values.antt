@@ -1,20 +1,25 @@
 -- What the values of noted fields hold.
 -- Assumes nothing.
-use Rattle.std.specs.Prelude.{ℕ, ◌+◌, ◌*◌, ◌%◌, Bool, true, cond, List, [], ◌∷◌, length, get_or, drop, eqb}
+use Rattle.std.specs.Prelude.{ℕ, ◌+◌, ◌*◌, ◌%◌, Bool, cond, List, [], ◌∷◌, length, get_or, drop, eqb, Option, None, Some}
+use Rattle.std.specs.List.{list_all}
 use Prim.Native.Char.{code}
-use Rattle.felica_format.specs.Basic.{◌and◌, zeros, word_of}
+use Rattle.felica_format.specs.Basic.{zeros, word_of}
 use Rattle.felica_put.specs.Put.{buffer, put}
 use Rattle.felica_text.specs.Text.{digit_of}
 use Rattle.felica_calls.specs.Field.{field_of, is_byte}
 use Rattle.felica_calls.specs.Bytes.{value_of, bytes_of}
+use Rattle.felica_named.specs.Fields.{place}
+use Rattle.felica_named.specs.Notes.{Starts}
+use Rattle.felica_named.specs.declared.names.Field.{Field}
 
--- the value that begins at a place of the text; none at 0
-abbrev pub value_at : List ℕ → ℕ → List ℕ
-value_at s start = cond (eqb start 0) [] (field_of (drop start s))
+-- the value that begins at a place of the text
+abbrev pub value_at : List ℕ → Option ℕ → List ℕ
+value_at s None = []
+value_at s (Some start) = field_of (drop start s)
 
--- the value of the field with this number
-abbrev pub value_named : List ℕ → List ℕ → ℕ → List ℕ
-value_named s starts k = value_at s (get_or starts k 0)
+-- the value of a field
+abbrev pub value_named : List ℕ → Starts → Field → List ℕ
+value_named s starts field = value_at s (get_or starts (place field) None)
 
 -- Hexadecimal numbers parted by commas: n is that of the digits before, and of it what counts below `kept` is kept, so that a number stays within its type.
 unfoldable pub numbers_from : ℕ → ℕ → List ℕ → List ℕ
@@ -45,5 +50,4 @@ word_in s = word_of (get_or (bytes_over (zeros 2) s) 1 0) (get_or (bytes_over (z
 
 -- no digit but 0
 unfoldable pub all_zero : List ℕ → Bool
-all_zero [] = true
-all_zero (d ∷ ds) = eqb d (code "0") and all_zero ds
+all_zero s = list_all (λ d. eqb d (code "0")) s

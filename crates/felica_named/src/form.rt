@@ -1,6 +1,6 @@
 // The forms that values have.
 ghost use Rattle.std.specs.Prelude.{◌≡◌};
-ghost use Rattle.felica_named.specs.Form.{longest, well_formed, challenge_form, has_digits, is_bytes, is_list, entries, entry_well};
+ghost use Rattle.felica_named.specs.Form.{longest, form_of_letter, well_formed, challenge_form, has_digits, is_bytes, is_list, entries, entry_well};
 
 use felica_calls::bytes::all_digits;
 use felica_text::hex::digit_value;
@@ -10,91 +10,91 @@ const MAX_LIST_TEXT: usize = 5119;
 
 const MAX_BYTES_TEXT: usize = 32768;
 
-pub(crate) fn longest_value(form: u8) -> usize
-    ensures { result ≡ longest form }
-{
-    if form == b'B' {
-        MAX_BYTES_TEXT
-    } else {
-        MAX_LIST_TEXT
-    }
+#[derive(Clone, Copy, Debug, PartialEq, Eq)]
+pub(crate) enum Form {
+    // So many bytes.
+    Bytes(u8),
+    // 8 bytes, or 16.
+    Challenge,
+    // A list of two-byte numbers.
+    Words,
+    // A list of numbers of one digit or two.
+    Numbers,
+    AnyBytes,
 }
 
-// By the letter or digit of the form: so many bytes, a challenge, a list of words, a list of numbers of one or two digits, any bytes.
-pub(crate) fn well_formed(form: u8, value: &[u8]) -> bool
-    ensures { result ≡ well_formed form value.now }
-{
-    match form {
-        b'1' => has_digits(value, 2),
-        b'2' => has_digits(value, 4),
-        b'8' => has_digits(value, 16),
-        b'C' => is_challenge(value),
-        b'W' => is_list(value, 4, 4),
-        b'N' => is_list(value, 1, 2),
-        b'B' => is_bytes(value),
-        _ => false,
+impl Form {
+    // The form that this letter or digit stands for.
+    #[tactic(auto, unfolding(crate::specs::Form::form_of_letter))]
+    pub(crate) fn from_letter(letter: u8) -> Option<Form>
+        ensures { result ≡ form_of_letter letter }
+    {
+        match letter {
+            b'1' => Some(Form::Bytes(1)),
+            b'2' => Some(Form::Bytes(2)),
+            b'8' => Some(Form::Bytes(8)),
+            b'C' => Some(Form::Challenge),
+            b'W' => Some(Form::Words),
+            b'N' => Some(Form::Numbers),
+            b'B' => Some(Form::AnyBytes),
+            _ => None,
+        }
+    }
+
+    pub(crate) fn longest(self) -> usize
+        ensures { result ≡ longest self }
+    {
+        match self {
+            Form::AnyBytes => MAX_BYTES_TEXT,
+            _ => MAX_LIST_TEXT,
+        }
+    }
+
+    #[tactic(auto, unfolding(crate::specs::Form::well_formed))]
+    pub(crate) fn fits(self, value: &[u8]) -> bool
+        ensures { result ≡ well_formed self value.now }
+    {
+        match self {
+            Form::Bytes(count) => has_digits(value, 2 * count as usize),
+            Form::Challenge => has_digits(value, 16) || has_digits(value, 32),
+            Form::Words => is_list(value, 4, 4),
+            Form::Numbers => is_list(value, 1, 2),
+            Form::AnyBytes => is_bytes(value),
+        }
     }
 }
 
 fn has_digits(value: &[u8], count: usize) -> bool
     ensures { result ≡ has_digits count value.now }
 {
-    if value.len() != count {
-        return false;
-    }
-    all_digits(value)
-}
-
-fn is_challenge(value: &[u8]) -> bool
-    ensures { result ≡ challenge_form value.now }
-{
-    if has_digits(value, 16) {
-        return true;
-    }
-    has_digits(value, 32)
+    value.len() == count && all_digits(value)
 }
 
 fn is_bytes(value: &[u8]) -> bool
     ensures { result ≡ is_bytes value.now }
 {
-    if value == b"-".as_slice() {
-        return true;
-    }
-    if value.len() == 0 {
-        return false;
-    }
-    if value.len() % 2 == 1 {
-        return false;
-    }
-    all_digits(value)
+    value == b"-".as_slice() || !value.is_empty() && value.len() % 2 == 0 && all_digits(value)
 }
 
 // `-`, or entries of `least` to `most` digits, parted by commas.
 fn is_list(value: &[u8], least: usize, most: usize) -> bool
     ensures { result ≡ is_list least most value.now }
 {
-    if value == b"-".as_slice() {
-        return true;
-    }
-    are_entries(value, least, most)
+    value == b"-".as_slice() || are_entries(value, least, most)
 }
 
 fn are_entries(value: &[u8], least: usize, most: usize) -> bool
     ensures { result ≡ entries least most 0 value.now }
 {
     let mut count: usize = 0;
-    let mut i = 0;
-    while i < value.len() {
-        let byte = value[i];
-        i += 1;
+    for &byte in value {
         if byte == b',' {
             if !is_entry(count, least, most) {
                 return false;
             }
             count = 0;
         } else {
-            let digit = digit_value(byte);
-            if let None = digit {
+            if digit_value(byte).is_none() {
                 return false;
             }
             count += 1;
@@ -106,8 +106,5 @@ fn are_entries(value: &[u8], least: usize, most: usize) -> bool
 fn is_entry(count: usize, least: usize, most: usize) -> bool
     ensures { result ≡ entry_well least most count }
 {
-    if count < least {
-        return false;
-    }
-    count <= most
+    least <= count && count <= most
 }

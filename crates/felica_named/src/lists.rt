@@ -1,102 +1,89 @@
-// Lists, data and package, written to lent buffers.
-ghost use Rattle.std.specs.Prelude.{◌≡◌, [], ◌∷◌};
-ghost use Rattle.felica_put.specs.Put.{buffer, put};
-ghost use Rattle.felica_calls.specs.Bytes.{bytes_of};
-ghost use Rattle.felica_named.specs.Values.{value_named, words_in, small_in, numbers_from};
+// Lists of numbers, written to lent buffers.
+ghost use Rattle.std.specs.Prelude.{◌≡◌, ℕ, ◌*◌, ◌<◌, ◌≤◌, map};
+ghost use Rattle.std.proofs.Common.{rules};
+ghost use Rattle.felica_put.specs.Output.{Puts};
+ghost use Rattle.felica_named.specs.Values.{value_named, numbers_in, numbers_from};
 
-use crate::values::{start_of, value_at};
-use felica_calls::bytes::{decode, value_of};
-use felica_put::{Output, put_byte};
+use crate::names::Field;
+use crate::notes::Named;
+use felica_calls::bytes::value_of;
+use felica_put::Output;
 
-pub fn words_named(text: &[u8], starts: &[usize], name: usize, words: &mut [u16]) -> usize
-    ensures { buffer words.new result ≡ put (buffer words.old 0) (words_in (value_named text.now starts.now name)) }
-{
-    put_words(value_at(text, start_of(starts, name)), words)
+// A number of a list: a two-byte number, or one of a byte.
+pub trait Number: Copy {
+    ghost KEPT: { ℕ };
+
+    // What counts below this is kept of the digits before another one, so that the number stays within its type.
+    const KEPT: u16;
+
+    ghost number: { ℕ → Self };
+
+    fn number(digits: u16) -> Self
+        requires { digits < 16 * KEPT }
+        ensures { result ≡ number digits };
+
+    ghost some: { 0 < KEPT };
+
+    ghost few: { KEPT ≤ 4096 };
 }
 
-pub fn small_named(text: &[u8], starts: &[usize], name: usize, numbers: &mut [u8]) -> usize
-    ensures { buffer numbers.new result ≡ put (buffer numbers.old 0) (small_in (value_named text.now starts.now name)) }
-{
-    put_small(value_at(text, start_of(starts, name)), numbers)
-}
+impl Number for u16 {
+    ghost KEPT = { 4096 };
 
-pub fn bytes_named(text: &[u8], starts: &[usize], name: usize, bytes: &mut [u8]) -> usize
-    ensures { buffer bytes.new result ≡ put (buffer bytes.old 0) (bytes_of (value_named text.now starts.now name)) }
-{
-    let mut output = Output::new(bytes);
-    decode(value_at(text, start_of(starts, name)), &mut output);
-    output.len
-}
+    ghost some = { Prim.search rules };
 
-fn put_words(value: &[u8], words: &mut [u16]) -> usize
-    ensures { buffer words.new result ≡ put (buffer words.old 0) (words_in value.now) }
-{
-    if value.len() == 0 {
-        return 0;
+    ghost few = { Prim.search rules };
+
+    const KEPT: u16 = 4096;
+
+    ghost number = { λ n. n };
+
+    fn number(digits: u16) -> u16 {
+        digits
     }
-    if value == b"-".as_slice() {
-        return 0;
-    }
-    put_each_word(value, words)
 }
 
-fn put_small(value: &[u8], numbers: &mut [u8]) -> usize
-    ensures { buffer numbers.new result ≡ put (buffer numbers.old 0) (small_in value.now) }
-{
-    if value.len() == 0 {
-        return 0;
+impl Number for u8 {
+    ghost KEPT = { 16 };
+
+    ghost some = { Prim.search rules };
+
+    ghost few = { Prim.search rules };
+
+    const KEPT: u16 = 16;
+
+    ghost number = { λ n. n };
+
+    fn number(digits: u16) -> u8 {
+        digits as u8
     }
-    if value == b"-".as_slice() {
-        return 0;
-    }
-    put_each_small(value, numbers)
 }
 
-fn put_each_word(value: &[u8], words: &mut [u16]) -> usize
-    ensures { buffer words.new result ≡ put (buffer words.old 0) (numbers_from 4096 0 value.now) }
-{
-    let mut next = 0;
-    let mut number: u16 = 0;
-    let mut i = 0;
-    while i < value.len() {
-        let digit = value[i];
-        i += 1;
-        if digit == b',' {
-            next = put_word(words, next, number);
-            number = 0;
-        } else {
-            number = number % 4096 * 16 + value_of(digit) as u16;
+impl Named<'_> {
+    pub fn numbers<T: Number>(&self, field: Field, numbers: &mut Output<T>)
+        ensures { Puts numbers.old numbers.new (map T.number (numbers_in T.KEPT (value_named self.now.text.now self.now.starts field))) }
+    {
+        let value = self.value(field);
+        if value.is_empty() {
+            return;
+        }
+        if value != b"-".as_slice() {
+            put_numbers(value, numbers);
         }
     }
-    put_word(words, next, number)
 }
 
-fn put_each_small(value: &[u8], numbers: &mut [u8]) -> usize
-    ensures { buffer numbers.new result ≡ put (buffer numbers.old 0) (numbers_from 16 0 value.now) }
+fn put_numbers<T: Number>(value: &[u8], numbers: &mut Output<T>)
+    ensures { Puts numbers.old numbers.new (map T.number (numbers_from T.KEPT 0 value.now)) }
 {
-    let mut next = 0;
-    let mut number: u8 = 0;
-    let mut i = 0;
-    while i < value.len() {
-        let digit = value[i];
-        i += 1;
+    let mut number = 0;
+    for &digit in value {
         if digit == b',' {
-            next = put_byte(numbers, next, number);
+            numbers.put(T::number(number));
             number = 0;
         } else {
-            number = number % 16 * 16 + value_of(digit);
+            number = number % T::KEPT * 16 + value_of(digit) as u16;
         }
     }
-    put_byte(numbers, next, number)
-}
-
-fn put_word(words: &mut [u16], at: usize, word: u16) -> usize
-    ensures { buffer words.new result ≡ put (buffer words.old at) (word ∷ []) }
-{
-    if at < words.len() {
-        words[at] = word;
-        at + 1
-    } else {
-        at
-    }
+    numbers.put(T::number(number));
 }

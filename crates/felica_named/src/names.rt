@@ -1,86 +1,66 @@
-// The names of fields. They stand in one text (`note_fields`), since there is no table of slices, and the number of a name is its place there.
-ghost use Rattle.std.specs.Prelude.{◌≡◌};
-ghost use Rattle.felica_named.specs.Names.{begins_with, place_in};
+// The names of fields. They stand in one text, each with the space before it, and behind it `=` and the form of its value. A field's number is the place of
+// its name there, so that what a first field without a space is taken for is settled by that text too.
+ghost use Rattle.std.specs.Prelude.{◌≡◌, ◌<◌, length, IfSome};
+ghost use Rattle.felica_named.specs.Names.{names, place_in};
+ghost use Rattle.felica_named.specs.Fields.{place};
 
 // The length of that text.
 pub const NAMES: usize = 211;
 
-// The number of no field.
-pub const NOWHERE: usize = NAMES;
-
-pub const IDM: usize = 0;
-
-pub const FIRST: usize = 6;
-
-pub const SECOND: usize = 14;
-
-pub const NUMBERS: usize = 23;
-
-pub const PLACES: usize = 33;
-
-pub const MODES: usize = 42;
-
-pub const DATA: usize = 50;
-
-pub const PACKAGE: usize = 57;
-
-pub const SYSTEM: usize = 67;
-
-pub const REQUEST: usize = 76;
-
-pub const SLOTS: usize = 86;
-
-pub const PARENT: usize = 94;
-
-pub const INDEX: usize = 103;
-
-pub const NODE: usize = 111;
-
-pub const PROPERTY: usize = 118;
-
-pub const TYPE: usize = 129;
-
-pub const OPERATION: usize = 136;
-
-pub const ENCRYPTION: usize = 148;
-
-pub const PACKET: usize = 161;
-
-pub const CHALLENGE: usize = 170;
-
-pub const ISSUE_ID: usize = 182;
-
-pub const ISSUE_PARAMETER: usize = 193;
-
-// Of a challenge of 16 bytes.
-pub const LONG_CHALLENGE: usize = 171;
-
-// Where `key` stands in the table first.
-pub(crate) fn place_in(table: &[u8], key: &[u8]) -> usize
-    ensures { result ≡ place_in key.now table.now }
+#[tactic(auto, unfolding(crate::specs::Names::names))]
+pub(crate) fn names() -> &'static [u8]
+    ensures { result.now ≡ names }
 {
-    let mut i = 0;
-    while i < table.len() {
-        if begins_with(&table[i..], key) {
-            return i;
-        }
-        i += 1;
-    }
-    i
+    b" idm=8 first=W second=W numbers=W places=N modes=N data=B package=B system=2 request=1 slots=1 parent=2 index=2 node=2 property=2 type=1 operation=1 encryption=1 packet=1 challenge=C issue_id=8 issue_parameter=8"
 }
 
-fn begins_with(text: &[u8], key: &[u8]) -> bool
-    ensures { result ≡ begins_with key.now text.now }
-{
-    let mut i = 0;
-    while i < key.len() {
-        if text.len() <= i {
-            return false;
-        }
-        if text[i] != key[i] {
-            return false;
-        }
-        i += 1;
+// A field, with the place of its name. A challenge of 16 bytes has the place behind that of 8 bytes.
+#[derive(Clone, Copy, Debug, PartialEq, Eq)]
+pub enum Field {
+    Idm = 0,
+    First = 6,
+    Second = 14,
+    Numbers = 23,
+    Places = 33,
+    Modes = 42,
+    Data = 50,
+    Package = 57,
+    System = 67,
+    Request = 76,
+    Slots = 86,
+    Parent = 94,
+    Index = 103,
+    Node = 111,
+    Property = 118,
+    PropertyType = 129,
+    Operation = 136,
+    Encryption = 148,
+    Packet = 161,
+    Challenge = 170,
+    LongChallenge = 171,
+    IssueId = 182,
+    IssueParameter = 193,
+}
+
+impl Field {
+    #[tactic(auto, unfolding(crate::specs::Fields::place, crate::specs::Names::names, crate::specs::Names::place_in))]
+    pub fn place(self) -> usize
+        ensures number { result ≡ place self }
+        ensures below { result < 211 }
+    {
+        self as usize
     }
-    true
+}
+
+// Where `key` stands in the table first.
+pub(crate) fn place_in(table: &[u8], key: &[u8]) -> Option<usize>
+    ensures place { result ≡ place_in key.now table.now }
+    ensures inside { IfSome result (λ place. place < length table.now) }
+{
+    for i in 0..table.len() {
+        if table[i..].starts_with(key) {
+            return Some(i);
+        }
+    }
+    None
 }

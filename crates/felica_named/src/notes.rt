@@ -1,42 +1,35 @@
 // A walk along the fields. Each is noted by where its value begins, at the number of its name, or what is wrong with it is told.
-ghost use Rattle.std.specs.Prelude.{◌≡◌, ◌+◌, ◌<◌, length};
-ghost use Rattle.felica_named.specs.Notes.{notes, fields_noted, note_from, note, note_value, form_of, slot_of, field_at};
+ghost use Rattle.std.specs.Prelude.{◌≡◌, ◌+◌, ◌<◌, ◌^◌, length, IfOk};
+ghost use Rattle.felica_named.specs.Notes.{noted, fields_noted, note, note_value, form_of, slot_of, field_at};
+ghost use Rattle.felica_named.specs.Named.{starts_of};
 
-use crate::form::{longest_value, well_formed};
-use crate::names::place_in;
+use crate::form::Form;
+use crate::names::{NAMES, names, place_in};
 use felica_calls::fault::Fault;
 use felica_text::find::find;
 
+// The fields of a writer's call: their text, and at the number of each name where its value begins there.
 #[derive(Clone, Copy)]
-pub enum Noted {
-    Whole,
-    Wrong(Fault),
+pub struct Named<'a> {
+    pub text: &'a [u8],
+    pub starts: [Option<usize>; NAMES],
 }
 
-// The fields of `text`. `starts` has an entry for each byte of the table of names: where the value begins in `text`, or 0 where the field is not named.
-pub fn note_fields(text: &[u8], starts: &mut [usize]) -> Noted
-    ensures { notes result starts.new ≡ fields_noted text.now starts.old }
-{
-    note_from(
-        b" idm=8 first=W second=W numbers=W places=N modes=N data=B package=B system=2 request=1 slots=1 parent=2 index=2 node=2 property=2 type=1 operation=1 encryption=1 packet=1 challenge=C issue_id=8 issue_parameter=8",
-        text,
-        starts,
-    )
-}
-
-fn note_from(table: &[u8], text: &[u8], starts: &mut [usize]) -> Noted
-    ensures { notes result starts.new ≡ note_from (length text.now) table.now text.now 0 starts.old }
-{
-    let mut at = 0;
-    while at < text.len() {
-        let field = field_at(text, at);
-        let noted = note_field(table, field, at, starts);
-        let Noted::Whole = noted else {
-            return noted;
-        };
-        at += field.len();
+impl<'a> Named<'a> {
+    pub fn read(text: &'a [u8]) -> Result<Named<'a>, Fault>
+        ensures starts { starts_of result ≡ fields_noted text.now }
+        ensures text { IfOk result (λ named. named.text.now ≡ text.now) }
+    {
+        let table = names();
+        let mut starts = [None; NAMES];
+        let mut at = 0;
+        while at < text.len() {
+            let field = field_at(text, at);
+            note(table, field, at, &mut starts)?;
+            at += field.len();
+        }
+        Ok(Named { text, starts })
     }
-    Noted::Whole
 }
 
 // A field with the space before it.
@@ -49,17 +42,20 @@ fn field_at(text: &[u8], at: usize) -> &[u8]
     &text[at..end]
 }
 
-fn note_field(table: &[u8], field: &[u8], at: usize, starts: &mut [usize]) -> Noted
-    requires { at + length field.now < 18446744073709551616 }
-    ensures { notes result starts.new ≡ note table.now field.now at starts.old }
+#[tactic(auto, unfolding(crate::specs::Notes::note, crate::specs::Notes::note_placed))]
+fn note(table: &[u8], field: &[u8], at: usize, starts: &mut [Option<usize>]) -> Result<(), Fault>
+    requires { at + length field.now < 2 ^ 64 }
+    ensures { noted result starts.new ≡ note table.now field.now at starts.old }
 {
     let name_end = find(field, b'=');
     if field.len() <= name_end {
-        return Noted::Wrong(Fault::UnknownField);
+        return Err(Fault::UnknownField);
     }
     let behind = name_end + 1;
     let value = &field[behind..];
-    let place = place_in(table, &field[..behind]);
+    let Some(place) = place_in(table, &field[..behind]) else {
+        return Err(Fault::UnknownField);
+    };
     let form = form_of(table, place, behind);
     note_value(
         form,
@@ -70,46 +66,48 @@ fn note_field(table: &[u8], field: &[u8], at: usize, starts: &mut [usize]) -> No
     )
 }
 
-fn form_of(table: &[u8], place: usize, behind: usize) -> u8
+fn form_of(table: &[u8], place: usize, behind: usize) -> Option<Form>
+    requires { place < length table.now }
     ensures { result ≡ form_of table.now place behind }
 {
-    if table.len() <= place {
-        return 0;
-    }
-    let rest = &table[place..];
-    if rest.len() <= behind {
-        return 0;
-    }
-    rest[behind]
+    Form::from_letter(*table[place..].get(behind)?)
 }
 
-fn slot_of(form: u8, place: usize, value: &[u8]) -> usize
-    requires { place < 18446744073709551615 }
+fn slot_of(form: Option<Form>, place: usize, value: &[u8]) -> usize
+    requires { place + 1 < 2 ^ 64 }
     ensures { result ≡ slot_of form place value.now }
 {
-    if form == b'C' {
-        if value.len() == 32 {
-            return place + 1;
-        }
+    match form {
+        Some(Form::Challenge) if value.len() == 32 => place + 1,
+        _ => place,
     }
-    place
 }
 
-fn note_value(form: u8, slot: usize, value: &[u8], start: usize, starts: &mut [usize]) -> Noted
-    ensures { notes result starts.new ≡ note_value form slot value.now start starts.old }
+#[tactic(auto, unfolding(crate::specs::Notes::note_value, crate::specs::Notes::note_formed))]
+fn note_value(
+    form: Option<Form>,
+    slot: usize,
+    value: &[u8],
+    start: usize,
+    starts: &mut [Option<usize>],
+) -> Result<(), Fault>
+    ensures { noted result starts.new ≡ note_value form slot value.now start starts.old }
 {
     if starts.len() <= slot {
-        return Noted::Wrong(Fault::UnknownField);
+        return Err(Fault::UnknownField);
     }
-    if starts[slot] != 0 {
-        return Noted::Wrong(Fault::FieldTwice);
+    if starts[slot].is_some() {
+        return Err(Fault::FieldTwice);
     }
-    if !well_formed(form, value) {
-        return Noted::Wrong(Fault::MalformedValue);
+    let Some(form) = form else {
+        return Err(Fault::MalformedValue);
+    };
+    if !form.fits(value) {
+        return Err(Fault::MalformedValue);
     }
-    if longest_value(form) < value.len() {
-        return Noted::Wrong(Fault::ValueTooLong);
+    if form.longest() < value.len() {
+        return Err(Fault::ValueTooLong);
     }
-    starts[slot] = start;
-    Noted::Whole
+    starts[slot] = Some(start);
+    Ok(())
 }

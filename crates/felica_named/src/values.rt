@@ -1,41 +1,51 @@
 // The values of noted fields.
-ghost use Rattle.std.specs.Prelude.{◌≡◌, get_or};
-ghost use Rattle.felica_named.specs.Values.{value_at, all_zero};
+ghost use Rattle.std.specs.Prelude.{◌≡◌};
+ghost use Rattle.felica_put.specs.Output.{Puts};
+ghost use Rattle.felica_calls.specs.Bytes.{bytes_of};
+ghost use Rattle.felica_named.specs.Values.{value_at, value_named, bytes_over, all_zero};
 
+use crate::names::Field;
+use crate::notes::Named;
+use felica_calls::bytes::decode;
 use felica_calls::field::field_of;
+use felica_put::Output;
 
-// Where the value of a field begins, or 0.
-pub(crate) fn start_of(starts: &[usize], name: usize) -> usize
-    ensures { result ≡ get_or starts.now name 0 }
-{
-    if starts.len() <= name {
-        return 0;
+impl Named<'_> {
+    // The value of a field: none where it is not named.
+    pub fn value(&self, field: Field) -> &[u8]
+        ensures { result.now ≡ value_named self.now.text.now self.now.starts field }
+    {
+        value_at(self.text, self.starts[field.place()])
     }
-    starts[name]
+
+    // Its bytes.
+    pub fn bytes(&self, field: Field, bytes: &mut Output<u8>)
+        ensures { Puts bytes.old bytes.new (bytes_of (value_named self.now.text.now self.now.starts field)) }
+    {
+        decode(self.value(field), bytes);
+    }
+
+    // The same, put to the front of a buffer.
+    pub(crate) fn fill(&self, field: Field, bytes: &mut [u8])
+        ensures { bytes.new ≡ bytes_over bytes.old (value_named self.now.text.now self.now.starts field) }
+    {
+        self.bytes(field, &mut Output::new(bytes));
+    }
 }
 
-// The value that begins at `start`: none at 0.
-pub(crate) fn value_at(text: &[u8], start: usize) -> &[u8]
+// The value that begins at `start`.
+pub(crate) fn value_at(text: &[u8], start: Option<usize>) -> &[u8]
     ensures { result.now ≡ value_at text.now start }
 {
-    if start == 0 {
-        return &text[..0];
+    match start {
+        None => &[],
+        Some(start) if text.len() < start => &[],
+        Some(start) => field_of(&text[start..]),
     }
-    if text.len() < start {
-        return &text[..0];
-    }
-    field_of(&text[start..])
 }
 
 pub(crate) fn all_zero(value: &[u8]) -> bool
     ensures { result ≡ all_zero value.now }
 {
-    let mut i = 0;
-    while i < value.len() {
-        if value[i] != b'0' {
-            return false;
-        }
-        i += 1;
-    }
-    true
+    value.iter().all(|digit| *digit == b'0')
 }

@@ -1,20 +1,18 @@
--- The line of a call of the writer, by what was noted of its fields.
+-- The command of a call of the writer, by what was put into each buffer.
 -- Assumes nothing.
-use Rattle.std.proofs.Common.{ℕ, zero, suc, ◌≤◌, ◌≡◌, refl, sym, ap, ◌∙◌, List, ◌∷◌, length, take}
-use Rattle.std.proofs.lemmas.List.{length-replicate}
-use Rattle.std.proofs.Math.Nat.{le_of_suc-le-suc, not-suc-le-zero}
+use Rattle.std.proofs.Common.{ℕ, zero, suc, ◌≤◌, ◌≡◌, refl, sym, ap, ◌∙◌, List, ◌∷◌, length, take, map, not-suc-le-zero, le_of_suc-le-suc}
+use Rattle.std.proofs.lemmas.List.{length-replicate, map-id}
 use Rattle.felica_format.specs.Basic.{zeros}
 use Rattle.felica_put.specs.Put.{buffer, put}
-use Rattle.felica_put.proofs.Laws.{put_within}
-use Rattle.felica_calls.specs.Fault.{fault_text}
-use Rattle.felica_calls.specs.declared.fault.Fault.{Fault}
-use Rattle.felica_named.specs.Notes.{Notes, notes}
-use Rattle.felica_named.specs.Handed.{command_named}
-use Rattle.felica_named.specs.declared.notes.Noted.{Noted}
-use Rattle.felica_named.specs.declared.notes.Noted.TheVariants.{Whole, Wrong}
-use Rattle.felica_write.specs.Writing.{writing}
-use Rattle.felica_answers.specs.Written.{written_line}
-use Rattle.felica_writing.specs.Answer.{answer_noted}
+use Rattle.felica_put.specs.Output.{Puts, held}
+use Rattle.felica_put.specs.declared.Output.{Output}
+use Rattle.felica_command.specs.declared.fixed.Fixed.{Fixed}
+use Rattle.felica_command.specs.Handed.{handed}
+use Rattle.felica_calls.specs.Bytes.{bytes_of}
+use Rattle.felica_named.specs.Notes.{Starts}
+use Rattle.felica_named.specs.Values.{value_named, words_in, small_in}
+use Rattle.felica_named.specs.Handed.{fixed_named, front_of, front_with, command_over}
+use Rattle.felica_named.specs.declared.names.Field.TheVariants.{First, Second, Numbers, Places, Modes, Data, Package}
 
 pub take_zeros : (n m : ℕ) → n ≤ m → take n (zeros m) ≡ zeros n
 take_zeros zero m h = refl
@@ -24,18 +22,18 @@ take_zeros (suc n) (suc m) h = ap (λ l. 0 ∷ l) (take_zeros n m (omega arith))
 pub zeros_taken : (n m : ℕ) → n ≤ m → n ≡ length (take n (zeros m))
 zeros_taken n m h = sym (ap length (take_zeros n m h) ∙ length-replicate n 0)
 
--- what was put at the front of a buffer is within it
-pub front_within : {A : Type 0} (before vs : List A) {after : List A} {n : ℕ} → buffer after n ≡ put (buffer before 0) vs → n ≤ length after
-front_within before vs e = put_within before 0 vs e (omega arith)
+-- what a list put into an empty output leaves at its front
+pub front_is : {a b : Output ℕ} (l list : List ℕ) {f : List ℕ} → held a ≡ buffer l 0 → Puts a b list → f ≡ take b.len b.room.now → f ≡ front_with l list
+front_is l list empty puts is = is ∙ ap front_of (puts.held ∙ ap (λ b. put b list) empty)
 
-pub front_long : {A : Type 0} (before vs : List A) {after : List A} {n : ℕ} → buffer after n ≡ put (buffer before 0) vs → n ≡ length (take n after)
-front_long before vs {after} {n} e = sym (length-take-le n after (front_within before vs e))
+pub numbers_front : {a b : Output ℕ} (l list : List ℕ) {f : List ℕ} → held a ≡ buffer l 0 → Puts a b (map (λ n. n) list) → f ≡ take b.len b.room.now → f ≡ front_with l list
+numbers_front l list empty puts is = front_is l (map (λ n. n) list) empty puts is ∙ ap (front_with l) (map-id list)
 
-module _ (size code : ℕ) (s : List ℕ) {r : Noted} {starts : List ℕ} {n : Notes} (e : notes r starts ≡ n) where
-  pub whole_line : r ≡ Whole → written_line (writing (command_named code s starts) (zeros size)) ≡ answer_noted size code s n
-  unfolding answer_noted
-  whole_line is = ap (answer_noted size code s) (ap (λ a. notes a starts) (sym is) ∙ e)
-
-  pub wrong_line : {fault : Fault} → r ≡ Wrong fault → fault_text fault ≡ answer_noted size code s n
-  unfolding answer_noted
-  wrong_line is = ap (answer_noted size code s) (ap (λ a. notes a starts) (sym is) ∙ e)
+pub command_given : (code : ℕ) (s : List ℕ) (starts : Starts) (first second numbers places modes block_data issue_package : List ℕ) {fixed : Fixed} {f g n p m d i : List ℕ}
+    → fixed ≡ fixed_named code s starts → f ≡ front_with first (words_in (value_named s starts First)) → g ≡ front_with second (words_in (value_named s starts Second))
+    → n ≡ front_with numbers (words_in (value_named s starts Numbers)) → p ≡ front_with places (small_in (value_named s starts Places))
+    → m ≡ front_with modes (small_in (value_named s starts Modes)) → d ≡ front_with block_data (bytes_of (value_named s starts Data))
+    → i ≡ front_with issue_package (bytes_of (value_named s starts Package))
+    → handed code fixed f g n p m d i ≡ command_over code s starts first second numbers places modes block_data issue_package
+unfolding command_over
+command_given code s starts first second numbers places modes block_data issue_package e₁ e₂ e₃ e₄ e₅ e₆ e₇ e₈ = rw (e₁, e₂, e₃, e₄, e₅, e₆, e₇, e₈)

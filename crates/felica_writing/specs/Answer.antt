@@ -1,25 +1,21 @@
 -- The answer to a call of the writer.
 -- Assumes nothing.
-use Rattle.std.specs.Prelude.{ℕ, cond, List, ltb}
+use Rattle.std.specs.Prelude.{ℕ, cond, List, ltb, Result, Ok, Err}
 use Rattle.felica_format.specs.Basic.{zeros}
 use Rattle.felica_calls.specs.Fault.{fault_text}
 use Rattle.felica_calls.specs.Write.{max_room}
+use Rattle.felica_calls.specs.declared.fault.Fault.{Fault}
 use Rattle.felica_calls.specs.declared.fault.Fault.TheVariants.{BufferTooLong}
-use Rattle.felica_named.specs.Notes.{Notes, fields_noted}
-use Rattle.felica_named.specs.Handed.{nowhere, command_named}
-use Rattle.felica_named.specs.declared.notes.Noted.{Noted}
-use Rattle.felica_named.specs.declared.notes.Noted.TheVariants.{Whole, Wrong}
+use Rattle.felica_named.specs.Notes.{Starts, fields_noted}
+use Rattle.felica_named.specs.Handed.{command_named}
 use Rattle.felica_write.specs.Writing.{writing}
 use Rattle.felica_answers.specs.Written.{written_line}
 
 -- what is wrong with the fields, or the line of what the writer answers with a buffer of `size` zeros
-unfoldable pub answer_noted : ℕ → ℕ → List ℕ → Notes → List ℕ
-answer_noted size code s n = go n.answer
-  where
-    go : Noted → List ℕ
-    go Whole = written_line (writing (command_named code s n.starts) (zeros size))
-    go (Wrong fault) = fault_text fault
+abbrev pub answer_noted : ℕ → ℕ → List ℕ → Result Starts Fault → List ℕ
+answer_noted size code s (Ok starts) = written_line (writing (command_named code s starts) (zeros size))
+answer_noted size code s (Err fault) = fault_text fault
 
 -- s is what follows the command code
 unfoldable pub write_answer : ℕ → ℕ → List ℕ → List ℕ
-write_answer size code s = cond (ltb max_room size) (fault_text BufferTooLong) (answer_noted size code s (fields_noted s (zeros nowhere)))
+write_answer size code s = cond (ltb max_room size) (fault_text BufferTooLong) (answer_noted size code s (fields_noted s))

@@ -13,10 +13,8 @@ ghost use Rattle.felica_writing.specs.Answer.{write_answer};
 use felica_answers::written::put_written;
 use felica_calls::fault::{Fault, put_fault};
 use felica_calls::write::MAX_ROOM;
-use felica_named::fixed::fixed_named;
-use felica_named::lists::{bytes_named, small_named, words_named};
-use felica_named::names::{DATA, FIRST, MODES, NAMES, NUMBERS, PACKAGE, PLACES, SECOND};
-use felica_named::notes::{Noted, note_fields};
+use felica_named::names::Field;
+use felica_named::notes::Named;
 use felica_put::Output;
 use felica_writable::handed::Handed;
 use felica_write::write;
@@ -29,6 +27,7 @@ const MAX_SMALL: usize = 2560;
 const MAX_BYTES: usize = 16384;
 
 // The fields stand in `text`, behind the command code.
+#[tactic(auto, unfolding(crate::specs::Answer::write_answer))]
 pub fn answer_write(size: usize, code: u8, text: &[u8], out: &mut Output<u8>)
     ensures { Puts out.old out.new (write_answer size code text.now) }
 {
@@ -37,23 +36,15 @@ pub fn answer_write(size: usize, code: u8, text: &[u8], out: &mut Output<u8>)
         put_fault(out, Fault::BufferTooLong);
         return;
     }
-    let mut starts = [0usize; NAMES];
-    let noted = note_fields(text, &mut starts);
-    match noted {
-        Noted::Whole => answer_named(size, code, text, &starts, out),
-        Noted::Wrong(fault) => put_fault(out, fault),
+    match Named::read(text) {
+        Ok(named) => answer_named(size, code, &named, out),
+        Err(fault) => put_fault(out, fault),
     }
 }
 
-fn answer_named(
-    size: usize,
-    code: u8,
-    text: &[u8],
-    starts: &[usize],
-    out: &mut Output<u8>,
-)
+fn answer_named(size: usize, code: u8, named: &Named, out: &mut Output<u8>)
     requires { size ≤ max_room }
-    ensures { Puts out.old out.new (written_line (writing (command_named code text.now starts.now) (zeros size))) }
+    ensures { Puts out.old out.new (written_line (writing (command_named code named.now.text.now named.now.starts) (zeros size))) }
 {
     let mut first = [0u16; MAX_WORDS];
     let mut second = [0u16; MAX_WORDS];
@@ -65,8 +56,7 @@ fn answer_named(
     let mut room = [0u8; MAX_ROOM];
     answer_from(
         code,
-        text,
-        starts,
+        named,
         &mut first,
         &mut second,
         &mut numbers,
@@ -82,8 +72,7 @@ fn answer_named(
 // The same, in buffers that are lent for what the writer takes and for what it writes.
 fn answer_from(
     code: u8,
-    text: &[u8],
-    starts: &[usize],
+    named: &Named,
     first: &mut [u16],
     second: &mut [u16],
     numbers: &mut [u16],
@@ -94,25 +83,32 @@ fn answer_from(
     room: &mut [u8],
     out: &mut Output<u8>,
 )
-    ensures { Puts out.old out.new (written_line (writing (command_over code text.now starts.now first.old second.old numbers.old places.old modes.old «data».old «package».old) room.old)) }
+    ensures { Puts out.old out.new (written_line (writing (command_over code named.now.text.now named.now.starts first.old second.old numbers.old places.old modes.old «data».old «package».old) room.old)) }
 {
-    let first_end = words_named(text, starts, FIRST, first);
-    let second_end = words_named(text, starts, SECOND, second);
-    let numbers_end = words_named(text, starts, NUMBERS, numbers);
-    let places_end = small_named(text, starts, PLACES, places);
-    let modes_end = small_named(text, starts, MODES, modes);
-    let data_end = bytes_named(text, starts, DATA, data);
-    let package_end = bytes_named(text, starts, PACKAGE, package);
+    let mut first = Output::new(first);
+    named.numbers(Field::First, &mut first);
+    let mut second = Output::new(second);
+    named.numbers(Field::Second, &mut second);
+    let mut numbers = Output::new(numbers);
+    named.numbers(Field::Numbers, &mut numbers);
+    let mut places = Output::new(places);
+    named.numbers(Field::Places, &mut places);
+    let mut modes = Output::new(modes);
+    named.numbers(Field::Modes, &mut modes);
+    let mut data = Output::new(data);
+    named.bytes(Field::Data, &mut data);
+    let mut package = Output::new(package);
+    named.bytes(Field::Package, &mut package);
     let command = Handed {
         code,
-        fixed: fixed_named(code, text, starts),
-        first: &first[..first_end],
-        second: &second[..second_end],
-        numbers: &numbers[..numbers_end],
-        places: &places[..places_end],
-        modes: &modes[..modes_end],
-        data: &data[..data_end],
-        package: &package[..package_end],
+        fixed: named.fixed(code),
+        first: first.filled(),
+        second: second.filled(),
+        numbers: numbers.filled(),
+        places: places.filled(),
+        modes: modes.filled(),
+        data: data.filled(),
+        package: package.filled(),
     };
     let written = write(command, room);
     put_written(out, written, room);

@@ -12,6 +12,5 @@ pub slice_bounds-answer_from-end-8 : goal.slice_bounds-answer_from-end-8
 slice_bounds-answer_from-end-8 c = zeros_taken c.args.size 16384 c.requires
 
 pub returns : goal.returns
-returns c =
-    let a = c.args in
-    puts_same c.answer_from.ensures (ap (λ l. written_line (writing (command_named a.code a.text.now a.starts.now) l)) (take_zeros a.size 16384 c.requires))
+returns c = let a = c.args in
+    puts_same c.answer_from.ensures (ap (λ l. written_line (writing (command_named a.code a.named.now.text.now a.named.now.starts) l)) (take_zeros a.size 16384 c.requires))
