@@ -94,10 +94,10 @@ fn are_entries(value: &[u8], least: usize, most: usize) -> bool
             }
             count = 0;
         } else {
-            if digit_value(byte).is_none() {
-                return false;
+            match digit_value(byte) {
+                Some(_) => count += 1,
+                None => return false,
             }
-            count += 1;
         }
     }
     is_entry(count, least, most)
