@@ -1,11 +1,8 @@
 -- The line put from the buffers is that of what the list reader answers, whatever stands behind the parts that were lent.
 -- Assumes nothing.
-use Prim.Native.Nat.{ℕ, ◌+◌, ◌≤◌}
-use mathlib.Core.Path.{◌≡◌, refl, sym, ap, ◌∙◌}
-use mathlib.Core.Bool.{Bool, true, false}
-use mathlib.Core.List.{List, ◌++◌, map, append_assoc}
-use lib.ListN.{length, take, drop, length-replicate}
-use lib.Seq.{take-append_seam, length-take-le}
+use Rattle.std.proofs.Common.{ℕ, ◌+◌, ◌≤◌, ◌≡◌, refl, sym, ap, ◌∙◌, Bool, true, false, List, ◌++◌, map, append_assoc, length, take, drop, length-take-le}
+use Rattle.std.proofs.Math.Seq.{take-append_seam}
+use Rattle.std.proofs.lemmas.List.{length-replicate}
 use Rattle.felica_format.specs.Basic.{zeros}
 use Rattle.felica_format.specs.Command.{Command, Element}
 use Rattle.felica_format.specs.Read.{Answer as Reading, gives, refused}
