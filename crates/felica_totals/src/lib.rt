@@ -24,20 +24,34 @@ impl Totals {
             && blocks <= usize::MAX - self.blocks
     }
 
-    // Counts one more record, of so many blocks where it was accepted; totals without room for it stay as they are.
+    // After one more record, of so many blocks where it was accepted; without room for it, as they were.
+    fn counted(self, accepted: Option<usize>) -> Totals
+        ensures { result ≡ counted_record self accepted }
+    {
+        if !self.has_room(accepted.unwrap_or(0)) {
+            return self;
+        }
+        let records = self.records + 1;
+        match accepted {
+            Some(blocks) => Totals {
+                records,
+                accepted: self.accepted + 1,
+                refused: self.refused,
+                blocks: self.blocks + blocks,
+            },
+            None => Totals {
+                records,
+                accepted: self.accepted,
+                refused: self.refused + 1,
+                blocks: self.blocks,
+            },
+        }
+    }
+
+    // Document 01 asks for totals by value first, and for one thin function that lends them.
     pub fn count(&mut self, accepted: Option<usize>)
         ensures { self.new ≡ counted_record self.old accepted }
     {
-        if !self.has_room(accepted.unwrap_or(0)) {
-            return;
-        }
-        self.records += 1;
-        match accepted {
-            Some(blocks) => {
-                self.accepted += 1;
-                self.blocks += blocks;
-            }
-            None => self.refused += 1,
-        }
+        *self = self.counted(accepted);
     }
 }

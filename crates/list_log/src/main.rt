@@ -33,9 +33,9 @@ fn list_held<W: Write>(
 ) -> io::Result<usize>
     requires room { HasLineRoom out.old }
     requires sound { Sound totals.old }
+    ensures listed { IfOk result (λ used. (used ≤ length held.now) × AllListed (W.contents writer.old) totals.old (put_in out.old) held.now (W.contents writer.new) totals.new (put_in out.new) used) }
     ensures room { HasLineRoom out.new }
     ensures sound { Sound totals.new }
-    ensures listed { IfOk result (λ used. (used ≤ length held.now) × AllListed (W.contents writer.old) totals.old (put_in out.old) held.now (W.contents writer.new) totals.new (put_in out.new) used) }
 {
     let mut used = 0;
     loop {
@@ -59,9 +59,9 @@ fn list_input<W: Write>(
     requires inside { held ≤ length input.old }
     requires room { HasLineRoom out.old }
     requires sound { Sound totals.old }
+    ensures listed { IfOk result (λ left. (left ≤ length input.new) × RestKept (W.contents writer.old) totals.old (put_in out.old) (take held input.old) (W.contents writer.new) totals.new (put_in out.new) (take left input.new)) }
     ensures room { HasLineRoom out.new }
     ensures sound { Sound totals.new }
-    ensures listed { IfOk result (λ left. (left ≤ length input.new) × RestKept (W.contents writer.old) totals.old (put_in out.old) (take held input.old) (W.contents writer.new) totals.new (put_in out.new) (take left input.new)) }
 {
     let used = list_held(writer, &input[..held], out, totals)?;
     keep_rest(input, used, held);

@@ -23,13 +23,6 @@ overflow_add-used g c =
     omega (arith, used_inside _ _ _ c.list_records-progress.ensures.reached, ap length (take_rest loop.used all) ∙ length-drop loop.used all, loop.invariant.inside) in
     omega (arith, inside)
 
-pub returns-then-not-lacks_room-clause-room : goal.returns-then-not-lacks_room-clause-room
-returns-then-not-lacks_room-clause-room g c =
-    room_after _ _ _ c.list_records-progress.ensures.reached refl refl (line_room_made c.in_ok-make_room.ensures.out c.loop-out.invariant.room)
-
-pub returns-then-not-lacks_room-clause-sound : goal.returns-then-not-lacks_room-clause-sound
-returns-then-not-lacks_room-clause-sound g c = sound_after _ _ _ c.list_records-progress.ensures.reached c.loop-out.invariant.sound
-
 pub returns-then-not-lacks_room-clause-listed : goal.returns-then-not-lacks_room-clause-listed
 returns-then-not-lacks_room-clause-listed g c =
     let loop = c.loop-out in
@@ -47,6 +40,13 @@ returns-then-not-lacks_room-clause-listed g c =
         subst (NoneLeft c.list_records-progress.new.totals) left (none_after _ _ _ e loop.invariant.sound other),
       ),
     )
+
+pub returns-then-not-lacks_room-clause-room : goal.returns-then-not-lacks_room-clause-room
+returns-then-not-lacks_room-clause-room g c =
+    room_after _ _ _ c.list_records-progress.ensures.reached refl refl (line_room_made c.in_ok-make_room.ensures.out c.loop-out.invariant.room)
+
+pub returns-then-not-lacks_room-clause-sound : goal.returns-then-not-lacks_room-clause-sound
+returns-then-not-lacks_room-clause-sound g c = sound_after _ _ _ c.list_records-progress.ensures.reached c.loop-out.invariant.sound
 
 pub loop-out-smaller : goal.loop-out-smaller
 loop-out-smaller g c =

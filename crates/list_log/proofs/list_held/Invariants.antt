@@ -8,10 +8,10 @@ use Rattle.list_log.proofs.list_held.Given as goal
 
 abbrev pub invariant-loop-out : goal.invariant-loop-out
 invariant-loop-out g l = record {
+  listed : ListedUpTo (g.W.Write.contents l.initial.writer) l.initial.totals (held l.initial.out) l.held (g.W.Write.contents l.writer) l.totals (held l.out) l.used;
   inside : l.used ≤ length l.held;
   room : HasLineRoom l.out;
   sound : Sound l.totals;
-  listed : ListedUpTo (g.W.Write.contents l.initial.writer) l.initial.totals (held l.initial.out) l.held (g.W.Write.contents l.writer) l.totals (held l.out) l.used;
 }
 
 abbrev pub decreases-loop-out : goal.decreases-loop-out
