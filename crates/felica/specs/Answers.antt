@@ -6,7 +6,7 @@ use Rattle.felica_command.specs.Meaning.{ParserResult}
 use Rattle.felica_put.specs.Put.{Buffer, put}
 use Rattle.felica_calls.specs.Fault.{fault_text}
 use Rattle.felica_calls.specs.Write.{behind_code}
-use Rattle.felica_calls.specs.Read.{Read}
+use Rattle.felica_calls.specs.Call.{Called}
 use Rattle.felica_calls.specs.declared.fault.Fault.{Fault}
 use Rattle.felica_calls.specs.declared.call.Call.{Call}
 use Rattle.felica_calls.specs.declared.call.Call.TheVariants.{Parse, Long, List as ListCall, Write}
@@ -26,9 +26,9 @@ AnswerTo line (Ok (ListCall source n z)) bytes before after = after ≡ put befo
 AnswerTo line (Ok (Write size c)) bytes before after = after ≡ put before (write_answer size c (behind_code line))
 AnswerTo line (Err fault) bytes before after = after ≡ put before (fault_text fault)
 
-unfoldable pub Answered : List ℕ → Read Call → Buffer → Buffer → Type 0
+unfoldable pub Answered : List ℕ → Called → Buffer → Buffer → Type 0
 Answered line c before after = AnswerTo line c.answer c.buffer before after
 
 -- a line feed behind it, whose code is 10
-unfoldable pub LineAnswered : List ℕ → Read Call → Buffer → Buffer → Type 0
+unfoldable pub LineAnswered : List ℕ → Called → Buffer → Buffer → Type 0
 LineAnswered line c before after = (answered : Buffer) × Answered line c before answered × (after ≡ put answered (10 ∷ []))

@@ -10,7 +10,7 @@ use Rattle.felica_calls.specs.Sizes.{max_lent, Lent, next_size, read_sizes}
 use Rattle.felica_calls.specs.Bytes.{all_digits, bytes_of, read_bytes, read_last}
 use Rattle.felica_calls.specs.Source.{read_source, behind_source, read_command_code}
 use Rattle.felica_calls.specs.Write.{max_room}
-use Rattle.felica_calls.specs.Call.{asked, list_of, read_call, count_of}
+use Rattle.felica_calls.specs.Call.{read_asked, read_list, read_call, count_of}
 use Rattle.felica_calls.specs.declared.fault.Fault.{Fault}
 use Rattle.felica_calls.specs.declared.fault.Fault.TheVariants.{ExtraField}
 use Rattle.felica_calls.specs.declared.source.Source.{Source}
@@ -98,8 +98,8 @@ last_fit s held = either (Has Fit) (ltb (length (next_field s)) (length (drop 1 
 abbrev AskedFit : Source × ℕ → List ℕ → Type 0
 AskedFit p held = p.1 ≤ length held
 
-asked_fit : (s held : List ℕ) → Has AskedFit (asked s held)
-unfolding asked
+asked_fit : (s held : List ℕ) → Has AskedFit (read_asked s held)
+unfolding read_asked
 asked_fit s held =
     then_has AskedFit (λ _. Unit {0}) (read_source s) held _ (any (read_source s)) λ source t.
     let d = read_last (behind_source source s) held in
@@ -115,8 +115,8 @@ pub record Fits (call : Call) (held : List ℕ) : Type 0 where
   pub count : count_of call ≤ length held
   pub lends : CallLends call
 
-list_fits : (s held : List ℕ) → Has Fits (list_of s held)
-unfolding list_of
+list_fits : (s held : List ℕ) → Has Fits (read_list s held)
+unfolding read_list
 list_fits s held =
     then_has Fits (λ _. Unit {0}) (read_source s) held _ (any (read_source s)) λ source t.
     let rest = behind_source source s in
@@ -130,9 +130,9 @@ write_fits (Ok n) (Err fault) held = tt
 write_fits (Err fault) code held = tt
 
 asked_fits : (make : Source × ℕ → Call) → ((p : Source × ℕ) → count_of (make p) ≡ p.1) → ((p : Source × ℕ) → CallLends (make p)) → (s held : List ℕ)
-    → Has Fits (read_in make (asked s held))
+    → Has Fits (read_in make (read_asked s held))
 asked_fits make same lends s held =
-    let d = asked s held in
+    let d = read_asked s held in
     in_has Fits AskedFit make d.answer d.buffer (asked_fit s held) λ p fit. record { count = rw (same p) fit; lends = lends p }
 
 call_fits : (line held : List ℕ) → Has Fits (read_call line held)

@@ -1,11 +1,12 @@
 -- The bytes of a call: hexadecimal digits, which go to a lent buffer.
 -- Assumes nothing.
-use Rattle.std.specs.Prelude.{ℕ, ◌+◌, ◌*◌, ◌/◌, ◌%◌, Bool, true, false, not, cond, List, [], ◌∷◌, ◌++◌, length, drop, ltb, eqb, Ok, Err, Option, Some, None}
+use Rattle.std.specs.Prelude.{ℕ, ◌+◌, ◌*◌, ◌/◌, ◌%◌, Bool, true, false, not, cond, List, [], ◌∷◌, ◌++◌, length, drop, ltb, eqb, Result, Ok, Err, Option, Some, None}
 use Rattle.std.specs.List.{list_all}
 use Prim.Native.Char.{code}
 use Rattle.felica_text.specs.Text.{digit_of}
 use Rattle.felica_calls.specs.Field.{next_field, is_byte}
 use Rattle.felica_calls.specs.Read.{Read, read}
+use Rattle.felica_calls.specs.declared.fault.Fault.{Fault}
 use Rattle.felica_calls.specs.declared.fault.Fault.TheVariants.{MissingField, ExtraField, NoDigit as NotADigit, OddDigits, TooManyBytes}
 
 -- hexadecimal digits as bytes; what is no digit counts as 0
@@ -28,16 +29,23 @@ bytes_of [] = []
 bytes_of (d ∷ []) = []
 bytes_of (high ∷ low ∷ ds) = byte_of high low ∷ bytes_of ds
 
--- how many bytes there are; `-` is no bytes
-unfoldable pub read_bytes : List ℕ → List ℕ → Read ℕ
+-- how many bytes there are, and what the lent buffer holds
+abbrev pub Decoded : Type 0
+Decoded = Read ℕ
+
+abbrev pub decoded : Result ℕ Fault → List ℕ → Decoded
+decoded answer buffer = read answer buffer
+
+-- `-` is no bytes
+unfoldable pub read_bytes : List ℕ → List ℕ → Decoded
 read_bytes s buffer =
-    cond (eqb (length s) 0) (read (Err MissingField) buffer)
-    (cond (is_byte (code "-") s) (read (Ok 0) buffer)
-    (cond (not (all_digits s)) (read (Err NotADigit) buffer)
-    (cond (eqb (length s % 2) 1) (read (Err OddDigits) buffer)
-    (cond (ltb (length buffer) (length s / 2)) (read (Err TooManyBytes) buffer)
-    (read (Ok (length s / 2)) (bytes_of s ++ drop (length s / 2) buffer))))))
+    cond (eqb (length s) 0) (decoded (Err MissingField) buffer)
+    (cond (is_byte (code "-") s) (decoded (Ok 0) buffer)
+    (cond (not (all_digits s)) (decoded (Err NotADigit) buffer)
+    (cond (eqb (length s % 2) 1) (decoded (Err OddDigits) buffer)
+    (cond (ltb (length buffer) (length s / 2)) (decoded (Err TooManyBytes) buffer)
+    (decoded (Ok (length s / 2)) (bytes_of s ++ drop (length s / 2) buffer))))))
 
 -- the last field, with the space before it
-unfoldable pub read_last : List ℕ → List ℕ → Read ℕ
-read_last s buffer = cond (ltb (length (next_field s)) (length (drop 1 s))) (read (Err ExtraField) buffer) (read_bytes (drop 1 s) buffer)
+unfoldable pub read_last : List ℕ → List ℕ → Decoded
+read_last s buffer = cond (ltb (length (next_field s)) (length (drop 1 s))) (decoded (Err ExtraField) buffer) (read_bytes (drop 1 s) buffer)

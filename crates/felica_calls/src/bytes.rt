@@ -2,8 +2,7 @@
 ghost use Rattle.std.specs.Prelude.{◌≡◌};
 ghost use Rattle.felica_text.specs.Text.{digit_of};
 ghost use Rattle.felica_put.specs.Output.{Puts};
-ghost use Rattle.felica_calls.specs.Read.{read};
-ghost use Rattle.felica_calls.specs.Bytes.{read_last, read_bytes, bytes_of, all_digits, byte_of, value_of};
+ghost use Rattle.felica_calls.specs.Bytes.{decoded, read_last, read_bytes, bytes_of, all_digits, byte_of, value_of};
 
 use crate::fault::Fault;
 use crate::field::behind_space;
@@ -14,7 +13,7 @@ use felica_text::hex::digit_value;
 // How many there are in the last field, with the space before it.
 #[tactic(auto, unfolding(crate::specs::Bytes::read_last))]
 pub(crate) fn read_last(rest: &[u8], bytes: &mut [u8]) -> Result<usize, Fault>
-    ensures { read result bytes.new ≡ read_last rest.now bytes.old }
+    ensures { decoded result bytes.new ≡ read_last rest.now bytes.old }
 {
     let field = behind_space(rest);
     if find(field, b' ') < field.len() {
@@ -25,7 +24,7 @@ pub(crate) fn read_last(rest: &[u8], bytes: &mut [u8]) -> Result<usize, Fault>
 
 #[tactic(auto, unfolding(crate::specs::Bytes::read_bytes))]
 pub(crate) fn read_bytes(field: &[u8], bytes: &mut [u8]) -> Result<usize, Fault>
-    ensures { read result bytes.new ≡ read_bytes field.now bytes.old }
+    ensures { decoded result bytes.new ≡ read_bytes field.now bytes.old }
 {
     if field.is_empty() {
         return Err(Fault::MissingField);

@@ -1,7 +1,7 @@
 // A line as a call: a name, then fields, each behind one space. The bytes of a call go to a lent buffer.
 ghost use Rattle.std.specs.Prelude.{◌≡◌};
 ghost use Rattle.felica_calls.specs.Read.{read};
-ghost use Rattle.felica_calls.specs.Call.{asked, list_of, read_call};
+ghost use Rattle.felica_calls.specs.Call.{called, read_asked, read_list, read_call};
 
 use crate::bytes::{read_bytes, read_last};
 use crate::fault::Fault;
@@ -25,7 +25,7 @@ pub enum Call {
 
 #[tactic(auto, unfolding(crate::specs::Call::read_call))]
 pub fn read_call(line: &[u8], bytes: &mut [u8]) -> Result<Call, Fault>
-    ensures { read result bytes.new ≡ read_call line.now bytes.old }
+    ensures { called result bytes.new ≡ read_call line.now bytes.old }
 {
     if line.is_empty() {
         return Err(Fault::EmptyLine);
@@ -47,9 +47,9 @@ pub fn read_call(line: &[u8], bytes: &mut [u8]) -> Result<Call, Fault>
 }
 
 // What is asked about: a source, and its bytes as the last field.
-#[tactic(auto, unfolding(crate::specs::Call::asked))]
+#[tactic(auto, unfolding(crate::specs::Call::read_asked))]
 fn read_asked(text: &[u8], bytes: &mut [u8]) -> Result<(Source, usize), Fault>
-    ensures { read result bytes.new ≡ asked text.now bytes.old }
+    ensures { read result bytes.new ≡ read_asked text.now bytes.old }
 {
     let source = read_source(text)?;
     let count = read_last(behind_source(text, source), bytes)?;
@@ -57,9 +57,9 @@ fn read_asked(text: &[u8], bytes: &mut [u8]) -> Result<(Source, usize), Fault>
 }
 
 // A source and its bytes, then the lengths of the buffers for its lists. No byte is read before the lengths are seen to be right.
-#[tactic(auto, unfolding(crate::specs::Call::list_of))]
+#[tactic(auto, unfolding(crate::specs::Call::read_list))]
 fn read_list(text: &[u8], bytes: &mut [u8]) -> Result<Call, Fault>
-    ensures { read result bytes.new ≡ list_of text.now bytes.old }
+    ensures { called result bytes.new ≡ read_list text.now bytes.old }
 {
     let source = read_source(text)?;
     let mut fields = Fields {

@@ -30,10 +30,6 @@ pub trait Number: Copy {
 impl Number for u16 {
     ghost KEPT = { 4096 };
 
-    ghost some = { Prim.search rules };
-
-    ghost few = { Prim.search rules };
-
     const KEPT: u16 = 4096;
 
     ghost number = { λ n. n };
@@ -41,14 +37,14 @@ impl Number for u16 {
     fn number(digits: u16) -> u16 {
         digits
     }
-}
-
-impl Number for u8 {
-    ghost KEPT = { 16 };
 
     ghost some = { Prim.search rules };
 
     ghost few = { Prim.search rules };
+}
+
+impl Number for u8 {
+    ghost KEPT = { 16 };
 
     const KEPT: u16 = 16;
 
@@ -57,6 +53,10 @@ impl Number for u8 {
     fn number(digits: u16) -> u8 {
         digits as u8
     }
+
+    ghost some = { Prim.search rules };
+
+    ghost few = { Prim.search rules };
 }
 
 impl Named<'_> {

@@ -1,5 +1,5 @@
-// The names of fields. They stand in one text, each with the space before it, and behind it `=` and the form of its value. A field's number is the place of
-// its name there, so that what a first field without a space is taken for is settled by that text too.
+// The names of fields. They stand in one text, each behind a space, and behind it `=` and the form of its value; a field's number is the place of its name
+// there. It is a text and no table of rows, since a first field may stand without its space, and is then looked for within the names.
 ghost use Rattle.std.specs.Prelude.{◌≡◌, ◌<◌, length, IfSome};
 ghost use Rattle.felica_named.specs.Names.{names, place_in};
 ghost use Rattle.felica_named.specs.Fields.{place};

@@ -4,7 +4,7 @@ use Rattle.std.proofs.Common.{◌≡◌, ℕ, List, sym, subst}
 use Rattle.std.specs.Prelude.{Result}
 use Rattle.std.proofs.lemmas.List.{length-take-le}
 use Rattle.felica_put.specs.Put.{Buffer}
-use Rattle.felica_calls.specs.Read.{Read, read}
+use Rattle.felica_calls.specs.Call.{Called, called}
 use Rattle.felica_calls.specs.declared.call.Call.{Call}
 use Rattle.felica_calls.specs.declared.fault.Fault.{Fault}
 use Rattle.felica_calls.proofs.Counts.{call_within}
@@ -12,7 +12,7 @@ use Rattle.felica.specs.Answers.{AnswerTo, Answered}
 use Rattle.felica.proofs.answer_call.Goals as goal
 
 -- what was read, answered as what it is
-answered : (line : List ℕ) {found : Result Call Fault} {bytes : List ℕ} {c : Read Call} (before after : Buffer) → read found bytes ≡ c
+answered : (line : List ℕ) {found : Result Call Fault} {bytes : List ℕ} {c : Called} (before after : Buffer) → called found bytes ≡ c
     → AnswerTo line found bytes before after → Answered line c before after
 unfolding Answered
 answered line before after e answer = subst (λ c. Answered line c before after) e answer
