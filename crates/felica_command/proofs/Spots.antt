@@ -1,20 +1,18 @@
 -- The part that a step names is the part that the layout names.
 -- Assumes nothing.
-use Prim.Native.Nat.{ℕ, ◌+◌, ◌*◌, ◌≤◌}
+use Prim.Native.Nat.{ℕ, ◌*◌, ◌≤◌}
 use native.Mathlib.Omega.{arith}
-use mathlib.Core.Path.{◌≡◌, sym, ap, ◌∙◌}
+use mathlib.Core.Path.{◌≡◌, ap, ◌∙◌}
 use mathlib.Core.Bool.{true}
-use mathlib.Core.List.{List, map}
-use lib.ListN.{length, take, drop, length-map}
+use mathlib.Core.List.{List}
+use lib.ListN.{length, take, drop}
 use lib.Seq.{take_all, length-take-le}
 use borrow.Author.Tests.{ltb-false}
 use Rattle.felica_format.specs.Basic.{taken}
-use Rattle.felica_format.specs.Command.{Element, Formed}
 use Rattle.felica_format.specs.Read.{read_data}
 use Rattle.felica_format.proofs.Steps.{refuse_if_passed}
-use Rattle.felica_command.proofs.Inside.{words_of_length}
-use Rattle.felica_command.specs.Meaning.{part, codes_at, formed_at, elements_at, bytes_at}
-use Rattle.felica_command.specs.Places.{places, elements_size}
+use Rattle.felica_command.specs.Meaning.{part, bytes_at}
+use Rattle.felica_command.specs.Places.{places}
 use Rattle.felica_command.specs.declared.command.Part.{Part}
 
 pub places_eq : {f f' g g' e e' d d' p p' : Part} → f ≡ f' → g ≡ g' → e ≡ e' → d ≡ d' → p ≡ p' → places f g e d p ≡ places f' g' e' d' p'

@@ -4,8 +4,8 @@ use Rattle.std.proofs.Common.{◌≡◌, ℕ, ◌+◌, ◌*◌, true, false, Boo
 use Rattle.std.proofs.lemmas.Bool.{le-ltb}
 use Rattle.std.proofs.lemmas.List.{length-map}
 use Rattle.std.proofs.lemmas.Result.{err_from_is_err_and}
-use Rattle.felica_format.specs.Basic.{Step, taken, refuse, bind, refuse_if, zeros}
-use Rattle.felica_format.specs.Command.{EndFields, Element, Formed, Command, long_count, command_of, no_fields}
+use Rattle.felica_format.specs.Basic.{taken, refuse, bind, refuse_if, zeros}
+use Rattle.felica_format.specs.Command.{EndFields, Element, Formed, long_count, command_of, no_fields}
 use Rattle.felica_format.specs.Layout.{Selector, no_selector, Codes, no_codes, ◌to◌, Ending, bare, Behind, nothing, ignored_bytes, a_package, Layout, layout_of}
 use Rattle.felica_format.specs.Read.{read_idm, read_selector, words_of, read_codes, read_each, read_elements, read_data, size_of, read_ending, read_values, read_package, if_codes}
 use Rattle.felica_format.specs.Read.{counted, read_body}
@@ -13,7 +13,7 @@ use Rattle.felica_format.specs.Reasons.{number_of}
 use Rattle.felica_format.specs.declared.error.Reason.{Reason}
 use Rattle.felica_command.specs.Types.{property_of, property_index}
 use Rattle.felica_command.specs.Meaning.{part, no_part, codes_at, formed_at, bytes_at, fields, fields_of, refusal, bare as bare_parsed}
-use Rattle.felica_command.specs.Places.{first_at, idm_size, selector_size, codes_part, codes_size, elements_size, blocks_part, blocks_size, data_part, package_part, places, layout_places}
+use Rattle.felica_command.specs.Places.{first_at, idm_size, selector_size, codes_part, codes_size, elements_size, blocks_part, blocks_size, data_part, package_part, layout_places}
 use Rattle.felica_command.specs.declared.types.ContainerProperty.{ContainerProperty}
 use Rattle.felica_command.specs.declared.command.Part.{Part}
 use Rattle.felica_command.specs.declared.command.FelicaStandardCommand.{FelicaStandardCommand}

@@ -1,8 +1,7 @@
 -- A payload, by its code.
 -- Assumes nothing.
-use Rattle.std.proofs.Common.{◌≡◌, ℕ, List, [], ◌∷◌, drop, None, Some, slice_get, refl, ap, ⊎_elim, Result}
+use Rattle.std.proofs.Common.{◌≡◌, ℕ, List, [], ◌∷◌, drop, None, Some, slice_get, refl, ⊎_elim, Result}
 use Rattle.felica_format.specs.declared.error.Reason.{Reason}
-use Rattle.felica_format.specs.declared.classes.Class.{Class}
 use Rattle.felica_format.specs.declared.classes.Class.TheVariants.{Plain}
 use Rattle.felica_format.specs.Layout.{class_of, has, plain_rows}
 use Rattle.felica_format.specs.Read.{refused, read_payload, read_plain_as}

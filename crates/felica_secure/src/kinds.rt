@@ -12,12 +12,8 @@ pub(crate) fn read_kind(command_code: u8, block_list: Part) -> FelicaStandardCom
     ensures { fields_of result ≡ blocks command_code no_part block_list no_part }
 {
     match command_code {
-        constants::READ_COMMAND_CODE => FelicaStandardCommand::Read {
-            block_list: block_list,
-        },
-        _ => FelicaStandardCommand::ReadV2 {
-            block_list: block_list,
-        },
+        constants::READ_COMMAND_CODE => FelicaStandardCommand::Read { block_list },
+        _ => FelicaStandardCommand::ReadV2 { block_list },
     }
 }
 
@@ -27,11 +23,11 @@ pub(crate) fn write_kind(command_code: u8, block_list: Part, bytes: Part) -> Fel
 {
     match command_code {
         constants::WRITE_COMMAND_CODE => FelicaStandardCommand::Write {
-            block_list: block_list,
+            block_list,
             data: bytes,
         },
         _ => FelicaStandardCommand::WriteV2 {
-            block_list: block_list,
+            block_list,
             data: bytes,
         },
     }

@@ -4,7 +4,9 @@
 ghost use Rattle.std.specs.Prelude.{◌≡◌};
 ghost use Rattle.felica_format.specs.Read.{read_secure};
 ghost use Rattle.felica_command.specs.Meaning.{meaning, Canonical};
-ghost use Rattle.felica_command.specs.Places.{places_of, read_places, Inside};
+ghost use Rattle.felica_command.specs.Places.{places_of, read_places, Inside, Account};
+ghost use Rattle.felica_cursor.specs.Taken.{rest};
+ghost use Rattle.felica_cursor.specs.Body.{result_of};
 
 mod bodies;
 mod kinds;
@@ -12,26 +14,38 @@ mod kinds;
 use bodies::{
     parse_change_system_block, parse_read, parse_register, parse_register_issue_id, parse_write,
 };
-use felica_command::command::Parsed;
-use felica_format::{constants, error};
+use felica_command::command::{Parsed, Refusal};
+use felica_cursor::cursor::Cursor;
+use felica_format::constants;
+use felica_format::error::Reason;
 
 // A plain code is unknown here.
-pub fn parse_secure_payload(command_code: u8, payload: &[u8]) -> Parsed
+pub fn parse_secure_payload(command_code: u8, payload: &[u8]) -> Result<Parsed, Refusal>
     ensures { (meaning payload.now result ≡ read_secure command_code payload.now) × (places_of result ≡ read_places 0 payload.now (read_secure command_code payload.now)) × Canonical result × Inside payload.now (places_of result) }
+{
+    parse_command(command_code, Cursor { payload, at: 0 }).map_err(|reason| Refusal::of_command(
+        reason,
+        command_code,
+    ))
+}
+
+// The body of a command, by its code.
+fn parse_command(command_code: u8, start: Cursor) -> Result<Parsed, Reason>
+    ensures { Account start.entry.payload.now start.entry.at (read_secure command_code (rest start.entry)) (result_of command_code result) }
 {
     match command_code {
         constants::READ_COMMAND_CODE | constants::READ_V2_COMMAND_CODE => parse_read(
-            payload,
+            start,
             command_code,
         ),
         constants::WRITE_COMMAND_CODE | constants::WRITE_V2_COMMAND_CODE => parse_write(
-            payload,
+            start,
             command_code,
         ),
-        constants::REGISTER_ISSUE_ID_COMMAND_CODE => parse_register_issue_id(payload),
+        constants::REGISTER_ISSUE_ID_COMMAND_CODE => parse_register_issue_id(start),
         constants::REGISTER_AREA_COMMAND_CODE | constants::REGISTER_SERVICE_COMMAND_CODE =>
-            parse_register(payload, command_code),
-        constants::CHANGE_SYSTEM_BLOCK_COMMAND_CODE => parse_change_system_block(payload),
-        _ => Parsed::refused(error::UNKNOWN_CODE, command_code),
+            parse_register(start, command_code),
+        constants::CHANGE_SYSTEM_BLOCK_COMMAND_CODE => parse_change_system_block(start),
+        _ => Err(Reason::UnknownCode),
     }
 }

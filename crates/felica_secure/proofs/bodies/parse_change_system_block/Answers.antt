@@ -1,31 +1,16 @@
--- `parse_change_system_block` meets its contract: a walk along its layout, by what each step says.
+-- `parse_change_system_block` meets its contract: each part of its layout is read by a step, or lacking.
 -- Assumes nothing.
-use mathlib.Core.Path.{refl, ap, ◌∙◌}
-use lib.ListN.{drop}
-use Rattle.felica_format.specs.Basic.{zeros}
-use Rattle.felica_format.specs.Read.{words_of, read_each}
-use Rattle.felica_command.specs.Places.{layout_places}
-use Rattle.felica_cursor.specs.Answers.{moved_ground}
-use Rattle.felica_command.specs.declared.command.FelicaStandardCommand.TheVariants.{ChangeSystemBlock}
-use Rattle.felica_cursor.proofs.Walk.{on, stop, body, no_idm, no_selector_read, no_codes_read, no_elements, no_data, no_package, refused_at, accepted_at}
-use Rattle.felica_cursor.proofs.Walk.{end_step}
+use Rattle.std.proofs.Common.{refl}
+use Rattle.felica_cursor.proofs.Walk.{no_idm, no_selector_read, no_codes_read, no_blocks, no_data, ending, ending_refused, accepted}
 use Rattle.felica_secure.proofs.Layouts.{layout_8e}
 use Rattle.felica_secure.proofs.bodies.parse_change_system_block.Goals as goal
 
-pub returns-in_default : goal.returns-in_default
-returns-in_default c =
-    let s = c.args.payload.now in
-    let ending = c.take_end-end.ensures.0 ∙ ap (end_step s (zeros 16)) c.in_default.is in
-    refused_at s 0 0x8E _ _ _ _ layout_8e
-    (body 0x8E _ (drop 0 s) ∙ on _ (no_idm _) (on _ (no_selector_read _) (on _ (no_codes_read _ _ _) (on _ (no_codes_read _ _ _) (on _ (no_elements _ _ _) (on _ (no_data _ _) (stop _ ending)))))))
-    (c.ground.ensures ∙ ap moved_ground c.in_default.is) c.refused.ensures
+pub returns-in_err-take_end : goal.returns-in_err-take_end
+returns-in_err-take_end c =
+    ending_refused c.args.start layout_8e no_idm no_selector_read no_codes_read no_codes_read no_blocks no_data c.in_err-take_end.ensures _ c.from_residual.ensures.1
 
 pub returns : goal.returns
-unfolding layout_places words_of read_each
 returns c =
-    let s = c.args.payload.now in
-    let ending = c.take_end-end.ensures.0 ∙ ap (end_step s (zeros 16)) c.in-On.is in
-    accepted_at s 0 0x8E _ ChangeSystemBlock _ (zeros 8) (zeros 16) 0 _ _ _ refl layout_8e refl
-    (body 0x8E _ (drop 0 s) ∙ on _ (no_idm _) (on _ (no_selector_read _) (on _ (no_codes_read _ _ _) (on _ (no_codes_read _ _ _) (on _ (no_elements _ _ _) (on _ (no_data _ _) (on _ ending (on _ (no_package _) refl))))))))
-    refl refl
-    refl refl
+    rw c.bare.ensures
+    (accepted c.args.start layout_8e no_idm no_selector_read no_codes_read no_codes_read no_blocks no_data (ending c.in_ok-take_end.ensures)
+    c.bare.ensures refl refl)
