@@ -2,7 +2,7 @@
 #![tactic(auto)]
 
 ghost use Rattle.std.specs.Prelude.{◌≡◌, [], ◌∷◌, take};
-ghost use Rattle.felica_put.specs.Put.{buffer, put};
+ghost use Rattle.felica_put.specs.Put.{buffer};
 ghost use Rattle.felica_put.specs.Output.{Puts, held};
 
 // A lent buffer, and how many of its places are filled, from the front on.
@@ -47,20 +47,4 @@ impl<'a, T: Copy> Output<'a, T> {
     {
         &self.room[..self.len.min(self.room.len())]
     }
-}
-
-pub fn put_byte(out: &mut [u8], at: usize, byte: u8) -> usize
-    ensures { buffer out.new result ≡ put (buffer out.old at) (byte ∷ []) }
-{
-    let mut output = Output { room: out, len: at };
-    output.put(byte);
-    output.len
-}
-
-pub fn put_bytes(out: &mut [u8], at: usize, bytes: &[u8]) -> usize
-    ensures { buffer out.new result ≡ put (buffer out.old at) bytes.now }
-{
-    let mut output = Output { room: out, len: at };
-    output.put_all(bytes);
-    output.len
 }
