@@ -1,6 +1,6 @@
 -- A reason is told by its number.
 -- Assumes nothing.
-use Rattle.std.proofs.Common.{ℕ, ◌≡◌, refl, sym, ap, ◌∙◌, Bool, cond, eqb}
+use Rattle.std.proofs.Common.{ℕ, ◌≡◌, refl, sym, ap, ◌∙◌, cond, eqb}
 use Rattle.felica_format.specs.Reasons.{number_of}
 use Rattle.felica_format.specs.declared.error.Reason.{Reason}
 use Rattle.felica_format.specs.declared.error.Reason.TheVariants.{EmptyFrame, LengthByteWrong, EmptyPayload, SecureCode, UnknownCode, IdmMissing}

@@ -1,10 +1,8 @@
--- Text put into a buffer, piece after piece, and the loops that put a list. Such a loop's invariant is stated of what is left: putting the rest
--- here gives what putting all gives from the start.
+-- What is put into a buffer, piece after piece.
 -- Assumes nothing.
 use Rattle.std.proofs.Common.{ℕ, suc, ◌+◌, ◌-◌, ◌≤◌, ◌<◌, ◌≡◌, refl, sym, ap, ◌∙◌, Bool, true, false, List, [], ◌∷◌, ◌++◌, zero-add, add-one, arith}
 use Rattle.std.proofs.Common.{length, get_or, set, take, drop, length-append, length-drop}
 use Rattle.std.proofs.Math.Dec.{ltb}
-use Rattle.std.proofs.Math.ListN.{drop_of_length-le}
 use Rattle.std.proofs.Math.Seq.{drop-cons, take-append_seam}
 use Rattle.std.proofs.lemmas.Bool.{lt-ltb, le-ltb, ltb-true}
 use Rattle.std.proofs.lemmas.List.{drop-set-lt, length-set, length-take-le, take_all, take-append-drop}
@@ -25,14 +23,6 @@ put_append b (v ∷ vs) ws = put_append (put_byte b v) vs ws
 pub put_then : {A : Type 0} (b : BufferOf A) (vs ws : List A) {c d : BufferOf A} → c ≡ put b vs → d ≡ put c ws → d ≡ put b (vs ++ ws)
 put_then b vs ws first second = second ∙ ap (λ x. put x ws) first ∙ sym (put_append b vs ws)
 
--- the same piece in other words
-pub put_same : {A : Type 0} (b : BufferOf A) (vs ws : List A) {c : BufferOf A} → c ≡ put b vs → vs ≡ ws → c ≡ put b ws
-put_same b vs ws e same = e ∙ ap (put b) same
-
--- the first piece of what is to be put
-pub put_rest : {A : Type 0} (b : BufferOf A) (vs ws : List A) {c all : BufferOf A} → put b (vs ++ ws) ≡ all → c ≡ put b vs → put c ws ≡ all
-put_rest b vs ws e first = ap (λ x. put x ws) first ∙ sym (put_append b vs ws) ∙ e
-
 pub put_none : {A : Type 0} (b : BufferOf A) (vs : List A) {all : BufferOf A} → vs ≡ [] → put b vs ≡ all → b ≡ all
 unfolding put
 put_none b vs n e = sym (ap (put b) n) ∙ e
@@ -45,25 +35,7 @@ drop_next l i d h = drop-cons l i d h ∙ ap (λ (k : ℕ). get_or l i d ∷ dro
 pub take_rest : {A : Type 0} (n : ℕ) (s : List A) → take (length s - n) (drop n s) ≡ drop n s
 take_rest n s = take_all (length s - n) (drop n s) (omega (arith, length-drop n s))
 
--- A turn of a loop that puts f of a list, entry by entry: g is what an entry puts.
-module _ {A B : Type 0} (f : List A → List B) (g : A → List B) (cons : (x : A) (xs : List A) → f (x ∷ xs) ≡ g x ++ f xs) where
-  pub put_more : (b : BufferOf B) (s : List A) (i : ℕ) (d : A) {c all : BufferOf B} → i < length s → put b (f (drop i s)) ≡ all → c ≡ put b (g (get_or s i d))
-      → put c (f (drop (i + 1) s)) ≡ all
-  put_more b s i d h e turn =
-      put_rest b (g (get_or s i d)) (f (drop (i + 1) s))
-      (ap (put b) (sym (ap f (drop_next s i d h) ∙ cons (get_or s i d) (drop (i + 1) s))) ∙ e)
-      turn
-
--- nothing is left of it
-pub put_done : {A B : Type 0} (f : List A → List B) (b : BufferOf B) (s : List A) (i : ℕ) {all : BufferOf B} → f [] ≡ [] → length s ≤ i → put b (f (drop i s)) ≡ all
-    → b ≡ all
-put_done f b s i n h e = put_none b (f (drop i s)) (ap f (drop_of_length-le s h) ∙ n) e
-
--- one byte where there is room, and bytes where there is none
-pub put_one : {A : Type 0} (l : List A) (at i : ℕ) (v : A) → at + i < length l → buffer (set l (at + i) v) (at + (i + 1)) ≡ put (buffer l (at + i)) (v ∷ [])
-unfolding put
-put_one l at i v room = let n : at + (i + 1) ≡ at + i + 1 = omega arith in rw (lt-ltb _ _ room, n) refl
-
+-- nothing is put where there is no room
 pub put_full : {A : Type 0} (vs l : List A) (at : ℕ) → length l ≤ at → put (buffer l at) vs ≡ buffer l at
 unfolding put
 put_full [] l at full = refl
@@ -74,16 +46,6 @@ put_over : {A : Type 0} (rest l : List A) (at : ℕ) {all : BufferOf A} → (0 <
 unfolding put
 put_over [] l at full e = e
 put_over (v ∷ vs) l at full e = sym (put_full (v ∷ vs) l at (full (omega arith))) ∙ e
-
--- a loop that puts a list from a place on: its start and its end
-pub put_start : {A : Type 0} (s l : List A) (at : ℕ) → put (buffer l (at + 0)) (drop 0 s) ≡ put (buffer l at) s
-put_start s l at = let n : at + 0 ≡ at = omega arith in rw n refl
-
-pub put_last : {A : Type 0} (s l before : List A) (at i count : ℕ) {all : BufferOf A} → i ≡ count → length l ≡ length before
-    → (count < length s → length before ≤ at + count) → put (buffer l (at + i)) (drop i s) ≡ all → buffer l (at + count) ≡ all
-put_last s l before at i count is same full e =
-    put_over (drop count s) l (at + count) (λ left. let more : count < length s = omega (arith, length-drop count s, left) in omega (arith, full more, same))
-    (ap (λ (k : ℕ). put (buffer l (at + k)) (drop k s)) (sym is) ∙ e)
 
 -- Where there is room, the text stands in the buffer, and what lies before and behind it keeps its value.
 put_sets : {A : Type 0} (vs l : List A) (at : ℕ) → at + length vs ≤ length l → put (buffer l at) vs ≡ buffer (sets l at vs) (at + length vs)
