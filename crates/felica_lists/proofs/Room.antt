@@ -1,7 +1,7 @@
 -- Whether every buffer has room for its list, and what stands in the buffers then.
 -- Assumes nothing.
 use Rattle.std.specs.Prelude.{Ok, Err, ◌&&◌}
-use Rattle.std.proofs.Common.{ℕ, ◌≡◌, refl, sym, Bool, true, false, List, leb}
+use Rattle.std.proofs.Common.{ℕ, ◌≡◌, refl, Bool, true, false, List}
 use Rattle.felica_format.specs.Basic.{◌and◌}
 use Rattle.felica_format.specs.Command.{Element}
 use Rattle.felica_format.specs.declared.error.Reason.TheVariants.{BufferTooSmall}

@@ -1,6 +1,6 @@
 -- `fill` meets its contract: every buffer is measured before one is written.
 -- Assumes nothing.
-use Rattle.std.proofs.Common.{refl, sym, ◌∙◌}
+use Rattle.std.proofs.Common.{sym, ◌∙◌}
 use Rattle.felica_lists.specs.Lent.{held}
 use Rattle.felica_lists.proofs.Room.{none_filled, all_filled}
 use Rattle.felica_lists.proofs.fill.fill.Goals as goal

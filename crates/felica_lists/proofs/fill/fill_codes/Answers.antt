@@ -1,7 +1,6 @@
 -- `fill_codes` meets its contract: a code for each turn.
 -- Assumes nothing.
-use Rattle.std.proofs.Common.{◌≡◌, ◌+◌, ◌*◌, ◌-◌, arith, ap, ◌∙◌, refl, drop, length}
-use Rattle.felica_format.specs.Read.{words_of}
+use Rattle.std.proofs.Common.{◌≡◌, ◌+◌, ◌*◌, ◌-◌, arith, refl}
 use Rattle.felica_command.specs.Meaning.{codes_at}
 use Rattle.felica_command.proofs.Inside.{words_of_length}
 use Rattle.felica_cursor.proofs.Laws.{words_next, no_words}
