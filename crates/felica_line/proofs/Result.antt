@@ -2,7 +2,7 @@
 -- Assumes nothing.
 use Rattle.std.proofs.Common.{ℕ, ◌≡◌, refl, sym, ap, ◌∙◌, subst, List, ◌++◌, drop, Option, Some, None, Ok, Err}
 use Rattle.felica_format.specs.Read.{Answer as Reading, read_frame}
-use Rattle.felica_command.specs.Meaning.{codes_at, fields_of, ParserResult, refusal_is, meaning}
+use Rattle.felica_command.specs.Meaning.{codes_at, fields_of, ParserResult, meaning}
 use Rattle.felica_command.specs.Places.{places_of, CodesInside, Inside}
 use Rattle.felica_command.specs.Lists.{lists_in}
 use Rattle.felica_command.specs.declared.command.Parsed.{Parsed}
