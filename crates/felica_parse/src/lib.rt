@@ -41,6 +41,7 @@ pub fn parse_payload(payload: &[u8]) -> Result<Parsed, Refusal>
 }
 
 // The body of a command, by its code.
+#[tactic(auto, using(crate::proofs::Entry::plain_read, felica_command::proofs::Settled::refusal_account), unfolding(felica_format::specs::Layout::class_of, felica_format::specs::Layout::has, felica_format::specs::Layout::plain_rows))]
 fn parse_command(command_code: u8, start: Cursor) -> Result<Parsed, Reason>
     ensures { Account start.entry.payload.now start.entry.at (read_plain_as (class_of command_code) command_code (rest start.entry)) (result_of command_code result) }
 {
