@@ -30,6 +30,7 @@ pub fn parse_secure_payload(command_code: u8, payload: &[u8]) -> Result<Parsed, 
 }
 
 // The body of a command, by its code.
+#[tactic(auto, using(crate::proofs::Entry::secure_read, crate::proofs::Entry::secure_refused), unfolding(felica_format::specs::Layout::class_of, felica_format::specs::Layout::has, felica_format::specs::Layout::plain_rows, felica_format::specs::Layout::secure_rows))]
 fn parse_command(command_code: u8, start: Cursor) -> Result<Parsed, Reason>
     ensures { Account start.entry.payload.now start.entry.at (read_secure command_code (rest start.entry)) (result_of command_code result) }
 {
