@@ -34,10 +34,8 @@ pub fn parse_payload(payload: &[u8]) -> Result<Parsed, Refusal>
     let Some(&command_code) = payload.first() else {
         return Err(Refusal::without_code(Reason::EmptyPayload));
     };
-    parse_command(command_code, Cursor { payload, at: 1 }).map_err(|reason| Refusal::of_command(
-        reason,
-        command_code,
-    ))
+    let body = Cursor { payload, at: 1 };
+    parse_command(command_code, body).map_err(|reason| Refusal::of_command(reason, command_code))
 }
 
 // The body of a command, by its code.
