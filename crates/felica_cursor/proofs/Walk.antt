@@ -6,7 +6,7 @@ use Rattle.std.proofs.lemmas.List.{length-map}
 use Rattle.std.proofs.lemmas.Result.{err_from_is_err_and}
 use Rattle.felica_format.specs.Basic.{taken, refuse, bind, refuse_if, zeros}
 use Rattle.felica_format.specs.Command.{EndFields, Element, Formed, long_count, command_of, no_fields}
-use Rattle.felica_format.specs.Layout.{Selector, no_selector, Codes, no_codes, ◌to◌, Ending, bare, Behind, nothing, ignored_bytes, a_package, Layout, layout_of}
+use Rattle.felica_format.specs.Layout.{Selector, no_selector, Codes, no_codes, ◌to◌, Ending, bare, Behind, nothing, ignored_bytes, a_package, Layout, layout, layout_of}
 use Rattle.felica_format.specs.Read.{read_idm, read_selector, words_of, read_codes, read_each, read_elements, read_data, size_of, read_ending, read_values, read_package, if_codes}
 use Rattle.felica_format.specs.Read.{counted, read_body}
 use Rattle.felica_format.specs.Reasons.{number_of}
@@ -260,6 +260,20 @@ module _ (from : Cursor) {code : ℕ} {l : Layout} (its : HasLayout code l) wher
                         (k.spot ∙ rw (n₅, s₄, n₄) refl)
                         (m.spot ∙ rw (n₆, s₄, n₄) refl)),
                       canonical)
+
+-- the same for a layout of fixed bytes alone, behind an IDm or none
+module _ (from : Cursor) {code : ℕ} {has : Bool} {e : Ending} {b : Behind} (its : HasLayout code (layout has no_selector no_codes no_codes false false e b)) where
+  module _ {idm : List ℕ} {c₁ : Cursor} (a : IdmRead has from idm c₁) where
+    pub fixed_refused : {T : Type 0} {meant : T → EndFields} {P : T → Cursor → Type 0} {why : Reason}
+        → Takes meant (read_ending e b (rest c₁)) P (Err why) → (r : Result Parsed Reason) → IsErrAnd r (λ y. y ≡ why) → BodyRead from code r
+    fixed_refused t r e = ending_refused from its a no_selector_read no_codes_read no_codes_read no_blocks no_data t r e
+
+    pub fixed_accepted : {values : EndFields} {q : Part} → EndRead e b c₁ values q → {plain : Parsed} {command : FelicaStandardCommand} {property : ContainerProperty}
+        → plain ≡ bare_parsed command
+        → fields_of command ≡ fields code 0 no_part no_part no_part no_part values.number values.index values.option values.choice q property
+        → property ≡ property_of (property_index property)
+        → BodyRead from code (Ok (record { command = command; idm = idm; challenge = values.challenge; long = 0 }))
+    fixed_accepted m its_command said canonical = accepted from its a no_selector_read no_codes_read no_codes_read no_blocks no_data m its_command said canonical
 
 -- a refusal of a body gets the code, where the function that maps it gives that
 pub with_code : {Q : Reason → Refusal → Type 0} (code : ℕ) (r : Result Parsed Reason) (t : Result Parsed Refusal)

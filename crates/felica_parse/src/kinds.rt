@@ -1,4 +1,4 @@
-// The command of each code where several share a layout.
+// The command of each code where several share a layout. The code picks it: a closure in its place would have to be described in each contract.
 ghost use Rattle.std.specs.Prelude.{◌≡◌};
 ghost use Rattle.felica_command.specs.Meaning.{fields_of, fixed, listed};
 ghost use Rattle.felica_parse.specs.Codes.{CodeListCode, IdmAloneCode, WordCode, ReservedCode};

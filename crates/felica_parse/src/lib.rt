@@ -34,13 +34,12 @@ pub fn parse_payload(payload: &[u8]) -> Result<Parsed, Refusal>
     let Some(&command_code) = payload.first() else {
         return Err(Refusal::without_code(Reason::EmptyPayload));
     };
-    parse_command(command_code, Cursor { payload, at: 1 }).map_err(|reason| Refusal::of_command(
-        reason,
-        command_code,
-    ))
+    let body = Cursor { payload, at: 1 };
+    parse_command(command_code, body).map_err(|reason| Refusal::of_command(reason, command_code))
 }
 
 // The body of a command, by its code.
+#[tactic(auto, using(crate::proofs::Entry::plain_read, felica_command::proofs::Settled::refusal_account), unfolding(felica_format::specs::Layout::class_of, felica_format::specs::Layout::has, felica_format::specs::Layout::plain_rows))]
 fn parse_command(command_code: u8, start: Cursor) -> Result<Parsed, Reason>
     ensures { Account start.entry.payload.now start.entry.at (read_plain_as (class_of command_code) command_code (rest start.entry)) (result_of command_code result) }
 {

@@ -1,4 +1,4 @@
-// The command of each code where two share a layout.
+// The command of each code where two share a layout, picked by the code as in felica_parse.
 ghost use Rattle.std.specs.Prelude.{◌≡◌};
 ghost use Rattle.felica_command.specs.Meaning.{no_part, fields_of, blocks, packed};
 ghost use Rattle.felica_secure.specs.Codes.{ReadCode, WriteCode, RegisterCode};

@@ -23,13 +23,12 @@ use felica_format::error::Reason;
 pub fn parse_secure_payload(command_code: u8, payload: &[u8]) -> Result<Parsed, Refusal>
     ensures { (meaning payload.now result ≡ read_secure command_code payload.now) × (places_of result ≡ read_places 0 payload.now (read_secure command_code payload.now)) × Canonical result × Inside payload.now (places_of result) }
 {
-    parse_command(command_code, Cursor { payload, at: 0 }).map_err(|reason| Refusal::of_command(
-        reason,
-        command_code,
-    ))
+    let body = Cursor { payload, at: 0 };
+    parse_command(command_code, body).map_err(|reason| Refusal::of_command(reason, command_code))
 }
 
 // The body of a command, by its code.
+#[tactic(auto, using(crate::proofs::Entry::secure_read, crate::proofs::Entry::secure_refused), unfolding(felica_format::specs::Layout::class_of, felica_format::specs::Layout::has, felica_format::specs::Layout::plain_rows, felica_format::specs::Layout::secure_rows))]
 fn parse_command(command_code: u8, start: Cursor) -> Result<Parsed, Reason>
     ensures { Account start.entry.payload.now start.entry.at (read_secure command_code (rest start.entry)) (result_of command_code result) }
 {

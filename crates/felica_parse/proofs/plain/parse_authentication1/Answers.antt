@@ -12,9 +12,7 @@ pub returns-in_err-areas : goal.returns-in_err-areas
 returns-in_err-areas c = first_refused _ layout_10 (idm c.in_ok-idm.ensures) no_selector_read c.in_err-areas.ensures _ c.from_residual-in_err-areas.ensures.1
 
 pub returns-in_err-services : goal.returns-in_err-services
-returns-in_err-services c =
-    second_refused _ layout_10 (idm c.in_ok-idm.ensures) no_selector_read (codes c.in_ok-areas.ensures)
-    c.in_err-services.ensures _ c.from_residual-in_err-services.ensures.1
+returns-in_err-services c = second_refused _ layout_10 (idm c.in_ok-idm.ensures) no_selector_read (codes c.in_ok-areas.ensures) c.in_err-services.ensures _ c.from_residual-in_err-services.ensures.1
 
 pub returns-in_err-challenge : goal.returns-in_err-challenge
 returns-in_err-challenge c =

@@ -9,14 +9,10 @@ pub returns-in_err-idm : goal.returns-in_err-idm
 returns-in_err-idm c = idm_refused c.args.start layout_40 c.in_err-idm.ensures _ c.from_residual.ensures.1
 
 pub returns-in_err-operation_parameter : goal.returns-in_err-operation_parameter
-returns-in_err-operation_parameter c =
-    selector_refused _ layout_40 (idm c.in_ok-idm.ensures)
-    c.in_err-operation_parameter.ensures _ c.from_residual-in_err-operation_parameter.ensures.1
+returns-in_err-operation_parameter c = selector_refused _ layout_40 (idm c.in_ok-idm.ensures) c.in_err-operation_parameter.ensures _ c.from_residual-in_err-operation_parameter.ensures.1
 
 pub returns-in_err-nodes : goal.returns-in_err-nodes
-returns-in_err-nodes c =
-    first_refused _ layout_40 (idm c.in_ok-idm.ensures) (selector c.in_ok-operation_parameter.ensures)
-    c.in_err-nodes.ensures _ c.from_residual-in_err-nodes.ensures.1
+returns-in_err-nodes c = first_refused _ layout_40 (idm c.in_ok-idm.ensures) (selector c.in_ok-operation_parameter.ensures) c.in_err-nodes.ensures _ c.from_residual-in_err-nodes.ensures.1
 
 pub returns-in_err-challenge : goal.returns-in_err-challenge
 returns-in_err-challenge c =

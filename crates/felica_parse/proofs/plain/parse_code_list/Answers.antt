@@ -9,9 +9,7 @@ pub returns-in_err-idm : goal.returns-in_err-idm
 returns-in_err-idm c = idm_refused c.args.start (code_list_layout _ c.requires) c.in_err-idm.ensures _ c.from_residual.ensures.1
 
 pub returns-in_err-codes : goal.returns-in_err-codes
-returns-in_err-codes c =
-    first_refused _ (code_list_layout _ c.requires) (idm c.in_ok-idm.ensures) no_selector_read
-    c.in_err-codes.ensures _ c.from_residual-in_err-codes.ensures.1
+returns-in_err-codes c = first_refused _ (code_list_layout _ c.requires) (idm c.in_ok-idm.ensures) no_selector_read c.in_err-codes.ensures _ c.from_residual-in_err-codes.ensures.1
 
 pub returns-in_err-take_end : goal.returns-in_err-take_end
 returns-in_err-take_end c =

@@ -9,9 +9,7 @@ pub returns-in_err-idm : goal.returns-in_err-idm
 returns-in_err-idm c = idm_refused c.args.start layout_28 c.in_err-idm.ensures _ c.from_residual.ensures.1
 
 pub returns-in_err-node_property_type : goal.returns-in_err-node_property_type
-returns-in_err-node_property_type c =
-    selector_refused _ layout_28 (idm c.in_ok-idm.ensures)
-    c.in_err-node_property_type.ensures _ c.from_residual-in_err-node_property_type.ensures.1
+returns-in_err-node_property_type c = selector_refused _ layout_28 (idm c.in_ok-idm.ensures) c.in_err-node_property_type.ensures _ c.from_residual-in_err-node_property_type.ensures.1
 
 pub returns-in_err-node_codes : goal.returns-in_err-node_codes
 returns-in_err-node_codes c =

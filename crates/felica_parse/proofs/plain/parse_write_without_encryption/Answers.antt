@@ -9,9 +9,7 @@ pub returns-in_err-idm : goal.returns-in_err-idm
 returns-in_err-idm c = idm_refused c.args.start layout_08 c.in_err-idm.ensures _ c.from_residual.ensures.1
 
 pub returns-in_err-service_codes : goal.returns-in_err-service_codes
-returns-in_err-service_codes c =
-    first_refused _ layout_08 (idm c.in_ok-idm.ensures) no_selector_read
-    c.in_err-service_codes.ensures _ c.from_residual-in_err-service_codes.ensures.1
+returns-in_err-service_codes c = first_refused _ layout_08 (idm c.in_ok-idm.ensures) no_selector_read c.in_err-service_codes.ensures _ c.from_residual-in_err-service_codes.ensures.1
 
 pub returns-in_err-blocks : goal.returns-in_err-blocks
 returns-in_err-blocks c =
