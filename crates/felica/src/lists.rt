@@ -40,7 +40,15 @@ fn answer_from(source: Source, bytes: &[u8], buffers: &mut ListBuffers, out: &mu
     ensures { Puts out.old out.new (list_line (listed (reading_of source bytes.now) (held buffers.old)).answer) }
 {
     let parsed = list(source, bytes, buffers);
-    put_listed(out, parsed, buffers);
+    put_listed(
+        out,
+        parsed,
+        buffers.first,
+        buffers.second,
+        buffers.numbers,
+        buffers.places,
+        buffers.modes,
+    );
 }
 
 fn list(source: Source, bytes: &[u8], buffers: &mut ListBuffers) -> Result<Parsed, Refusal>

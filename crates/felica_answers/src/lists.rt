@@ -1,19 +1,27 @@
 // The line that answers a call of the list reader.
 ghost use Rattle.std.specs.Prelude.{◌≡◌, take};
 ghost use Rattle.felica_put.specs.Output.{Puts};
-ghost use Rattle.felica_lists.specs.Lent.{held};
+ghost use Rattle.felica_lists.specs.Lists.{buffers};
 ghost use Rattle.felica_answers.specs.Lists.{listed_text};
 
 use felica_command::command::{Parsed, Refusal};
 use felica_fields::field::{put_nibbles_field, put_words_field};
 use felica_fields::refusal::put_refusal;
-use felica_lists::buffers::ListBuffers;
 use felica_put::Output;
 use felica_text::put::put_hex_byte;
 
-// The line of what the list reader answers, with the lists at the front of the buffers that it was lent.
-pub fn put_listed(out: &mut Output<u8>, listed: Result<Parsed, Refusal>, buffers: &ListBuffers)
-    ensures { Puts out.old out.new (listed_text listed (held buffers.now)) }
+// The line of what the list reader answers, with the lists at the front of the buffers that it was lent. Five slices, since `ListBuffers` has them to write to,
+// and whoever lends them here may lend them to be read only.
+pub fn put_listed(
+    out: &mut Output<u8>,
+    listed: Result<Parsed, Refusal>,
+    first: &[u16],
+    second: &[u16],
+    numbers: &[u16],
+    places: &[u8],
+    modes: &[u8],
+)
+    ensures { Puts out.old out.new (listed_text listed (buffers first.now second.now numbers.now places.now modes.now)) }
 {
     match listed {
         Ok(parsed) => {
@@ -21,16 +29,15 @@ pub fn put_listed(out: &mut Output<u8>, listed: Result<Parsed, Refusal>, buffers
             let blocks = lists.block_list.count;
             out.put_all(b"OK ");
             put_hex_byte(out, parsed.command.command_code());
-            put_words_field(out, b" first=", front(buffers.first, lists.first_codes.count));
-            put_words_field(out, b" second=", front(buffers.second, lists.second_codes.count));
-            put_words_field(out, b" numbers=", front(buffers.numbers, blocks));
-            put_nibbles_field(out, b" places=", front(buffers.places, blocks));
-            put_nibbles_field(out, b" modes=", front(buffers.modes, blocks));
+            put_words_field(out, b" first=", front(first, lists.first_codes.count));
+            put_words_field(out, b" second=", front(second, lists.second_codes.count));
+            put_words_field(out, b" numbers=", front(numbers, blocks));
+            put_nibbles_field(out, b" places=", front(places, blocks));
+            put_nibbles_field(out, b" modes=", front(modes, blocks));
         }
         Err(refusal) => put_refusal(out, refusal),
     }
 }
-
 
 pub(crate) fn front<T>(items: &[T], count: usize) -> &[T]
     ensures { result.now ≡ take count items.now }

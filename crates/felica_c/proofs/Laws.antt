@@ -6,7 +6,9 @@ use Rattle.felica_command.specs.Meaning.{fields_of, ParserResult, meaning}
 use Rattle.felica_command.specs.Places.{Places, places_of, read_places}
 use Rattle.felica_command.specs.declared.command.FelicaStandardCommand.{FelicaStandardCommand}
 use Rattle.felica_command.specs.declared.command.Refusal.{Refusal}
-use Rattle.felica_lists.specs.Lists.{Buffers, Outcome, outcome}
+use Rattle.felica_lists.specs.Lists.{buffers, Outcome, outcome}
+use Rattle.felica_lists.specs.Lent.{held}
+use Rattle.felica_lists.specs.declared.buffers.ListBuffers.{ListBuffers}
 use Rattle.felica_write.specs.Writing as writer
 use Rattle.felica_write.specs.Writing.{Written}
 use Rattle.felica_c.specs.declared.answer.FelicaWritten.{FelicaWritten}
@@ -26,11 +28,14 @@ result_tells s at reading (Ok p) m means placed =
     ∙ ap (λ (x : Reading). telling at s x m) means
 result_tells s at reading (Err why) m means placed = ap (λ (x : Reading). telling at s x m) means
 
--- the same of the list reader's result p, with its buffers b
-pub list_tells : (s : List ℕ) (at : ℕ) (o : Outcome) (p : ParserResult) (b : Buffers) (m : Lent) (t : Told) → outcome (meaning s p) b ≡ o
-    → places_of p ≡ read_places at s (meaning s p) → t ≡ tell p m → (t ≡ telling at s o.answer m) × (b ≡ o.buffers)
-list_tells s at o p b m t is placed tells =
-    (tells ∙ result_tells s at (meaning s p) p m refl placed ∙ ap (λ (x : Outcome). telling at s x.answer m) is, ap (λ (x : Outcome). x.buffers) is)
+-- the same of the list reader's result p, with the lent buffers o
+pub list_tells : (s : List ℕ) (at : ℕ) (all : Outcome) (p : ParserResult) (o : ListBuffers) (m : Lent) (t : Told) {first second numbers places modes : List ℕ}
+    → outcome (meaning s p) (held o) ≡ all → places_of p ≡ read_places at s (meaning s p) → t ≡ tell p m
+    → first ≡ o.first.now → second ≡ o.second.now → numbers ≡ o.numbers.now → places ≡ o.places.now → modes ≡ o.modes.now
+    → (t ≡ telling at s all.answer m) × (buffers first second numbers places modes ≡ all.buffers)
+list_tells s at all p o m t is placed tells e₁ e₂ e₃ e₄ e₅ =
+    (tells ∙ result_tells s at (meaning s p) p m refl placed ∙ ap (λ (x : Outcome). telling at s x.answer m) is,
+     rw (e₁, e₂, e₃, e₄, e₅) (ap (λ (x : Outcome). x.buffers) is))
 
 -- the writer's result w, told as r
 length_told : (w : Written) (n : ℕ) → w ≡ Ok n → record { refusal = 0; length = n } ≡ written_answer (writer.meaning w)
