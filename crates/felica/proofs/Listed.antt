@@ -1,6 +1,6 @@
 -- The line put from the buffers is that of what the list reader answers.
 -- Assumes nothing.
-use Rattle.std.proofs.Common.{ℕ, ◌+◌, ◌≤◌, ◌≡◌, refl, sym, ap, ◌∙◌, Bool, true, false, List, ◌++◌, map, length, take, drop, Ok, Err}
+use Rattle.std.proofs.Common.{ℕ, ◌+◌, ◌≤◌, ◌≡◌, sym, ap, ◌∙◌, Bool, true, false, List, map, length, take, drop, Ok, Err}
 use Rattle.std.proofs.Math.Seq.{take-append_seam}
 use Rattle.felica_format.specs.Command.{Command, Element}
 use Rattle.felica_format.specs.Read.{Answer as Reading, gives, refused}

@@ -1,7 +1,7 @@
 // Answers to calls of the list reader. It is lent buffers of the lengths of the call, and the line is put from what stands in them then.
 ghost use Rattle.felica_put.specs.Output.{Puts};
 ghost use Rattle.felica_lists.specs.Lent.{held, SameReferences};
-ghost use Rattle.felica_lists.specs.Lists.{listed};
+ghost use Rattle.felica_lists.specs.Lists.{buffers, listed};
 ghost use Rattle.felica_lists.specs.Rules.{ListAccount};
 ghost use Rattle.felica_calls.specs.Sizes.{Lent};
 ghost use Rattle.felica_answers.specs.Lists.{list_line};
@@ -25,30 +25,40 @@ pub(crate) fn answer_list(source: Source, bytes: &[u8], sizes: Sizes, out: &mut 
     let mut numbers = [0u16; MAX_LENT];
     let mut places = [0u8; MAX_LENT];
     let mut modes = [0u8; MAX_LENT];
-    let mut buffers = ListBuffers {
-        first: &mut first[..sizes.first],
-        second: &mut second[..sizes.second],
-        numbers: &mut numbers[..sizes.numbers],
-        places: &mut places[..sizes.places],
-        modes: &mut modes[..sizes.modes],
-    };
-    answer_from(source, bytes, &mut buffers, out);
+    answer_from(
+        source,
+        bytes,
+        &mut first[..sizes.first],
+        &mut second[..sizes.second],
+        &mut numbers[..sizes.numbers],
+        &mut places[..sizes.places],
+        &mut modes[..sizes.modes],
+        out,
+    );
 }
 
 // The same, in buffers that are lent.
-fn answer_from(source: Source, bytes: &[u8], buffers: &mut ListBuffers, out: &mut Output<u8>)
-    ensures { Puts out.old out.new (list_line (listed (reading_of source bytes.now) (held buffers.old)).answer) }
+fn answer_from(
+    source: Source,
+    bytes: &[u8],
+    first: &mut [u16],
+    second: &mut [u16],
+    numbers: &mut [u16],
+    places: &mut [u8],
+    modes: &mut [u8],
+    out: &mut Output<u8>,
+)
+    ensures { Puts out.old out.new (list_line (listed (reading_of source bytes.now) (buffers first.old second.old numbers.old places.old modes.old)).answer) }
 {
-    let parsed = list(source, bytes, buffers);
-    put_listed(
-        out,
-        parsed,
-        buffers.first,
-        buffers.second,
-        buffers.numbers,
-        buffers.places,
-        buffers.modes,
-    );
+    let mut lent = ListBuffers {
+        first,
+        second,
+        numbers,
+        places,
+        modes,
+    };
+    let parsed = list(source, bytes, &mut lent);
+    put_listed(out, parsed, first, second, numbers, places, modes);
 }
 
 fn list(source: Source, bytes: &[u8], buffers: &mut ListBuffers) -> Result<Parsed, Refusal>

@@ -8,6 +8,7 @@ use Rattle.felica_command.specs.declared.command.FelicaStandardCommand.{FelicaSt
 use Rattle.felica_command.specs.declared.command.Refusal.{Refusal}
 use Rattle.felica_lists.specs.Lists.{buffers, Outcome, outcome}
 use Rattle.felica_lists.specs.Lent.{held}
+use Rattle.felica_lists.proofs.Lent.{buffers_of}
 use Rattle.felica_lists.specs.declared.buffers.ListBuffers.{ListBuffers}
 use Rattle.felica_write.specs.Writing as writer
 use Rattle.felica_write.specs.Writing.{Written}
@@ -35,7 +36,7 @@ pub list_tells : (s : List ℕ) (at : ℕ) (all : Outcome) (p : ParserResult) (o
     → (t ≡ telling at s all.answer m) × (buffers first second numbers places modes ≡ all.buffers)
 list_tells s at all p o m t is placed tells e₁ e₂ e₃ e₄ e₅ =
     (tells ∙ result_tells s at (meaning s p) p m refl placed ∙ ap (λ (x : Outcome). telling at s x.answer m) is,
-     rw (e₁, e₂, e₃, e₄, e₅) (ap (λ (x : Outcome). x.buffers) is))
+     buffers_of o e₁ e₂ e₃ e₄ e₅ ∙ ap (λ (x : Outcome). x.buffers) is)
 
 -- the writer's result w, told as r
 length_told : (w : Written) (n : ℕ) → w ≡ Ok n → record { refusal = 0; length = n } ≡ written_answer (writer.meaning w)

@@ -1,7 +1,10 @@
 -- `felica::lists::answer_from` writes the line of what the list reader answers.
 -- Assumes nothing.
 use Rattle.felica_put.proofs.Lists.{puts_same}
-use Rattle.felica_lists.specs.Lent.{held}
+use Rattle.std.proofs.Common.{ap, ◌∙◌, rules}
+use Rattle.felica_lists.specs.Lists.{buffers}
+use Rattle.felica_answers.specs.Lists.{listed_text}
+use Rattle.felica_lists.proofs.Lent.{buffers_of}
 use Rattle.felica.specs.Source.{reading_of, payload_in}
 use Rattle.felica.proofs.Listed.{listed_line}
 use Rattle.felica.proofs.lists.answer_from.Goals as goal
@@ -10,4 +13,8 @@ pub returns : goal.returns
 returns c =
     let a = c.args in
     let account = c.list-parsed.ensures.listed in
-    puts_same c.put_listed.ensures (listed_line (payload_in a.source a.bytes.now) (held a.buffers.now) c.list-parsed.result (reading_of a.source a.bytes.now) _ account.0 account.3)
+    let kept = buffers_of c.list-parsed.new.buffers (search rules) (search rules) (search rules) (search rules) (search rules) in
+    puts_same c.put_listed.ensures
+    (ap (listed_text c.list-parsed.result) kept
+     ∙ listed_line (payload_in a.source a.bytes.now) (buffers a.first.now a.second.now a.numbers.now a.places.now a.modes.now) c.list-parsed.result
+     (reading_of a.source a.bytes.now) _ account.0 account.3)

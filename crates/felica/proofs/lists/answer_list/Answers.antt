@@ -1,15 +1,13 @@
 -- `felica::lists::answer_list` lends buffers of the lengths of the call.
 -- Assumes nothing.
-use Rattle.std.proofs.Common.{ℕ, List, ◌≡◌, ap}
+use Rattle.std.proofs.Common.{ap}
 use Rattle.std.proofs.lemmas.List.{take-replicate}
 use Rattle.felica_put.proofs.Lists.{puts_same}
-use Rattle.felica_lists.specs.Lists.{Buffers, buffers, listed}
+use Rattle.felica_lists.specs.Lists.{Buffers, listed}
 use Rattle.felica_answers.specs.Lists.{list_line}
 use Rattle.felica.specs.Source.{reading_of}
+use Rattle.felica_lists.proofs.Lent.{same_buffers}
 use Rattle.felica.proofs.lists.answer_list.Goals as goal
-
-same_buffers : {a b n p m a' b' n' p' m' : List ℕ} → a ≡ a' → b ≡ b' → n ≡ n' → p ≡ p' → m ≡ m' → buffers a b n p m ≡ buffers a' b' n' p' m'
-same_buffers e₁ e₂ e₃ e₄ e₅ = rw (e₁, e₂, e₃, e₄, e₅)
 
 pub returns : goal.returns
 returns c =
