@@ -4,7 +4,6 @@ use Rattle.std.proofs.Common.{ℕ, ◌≡◌, refl, sym, ap, ◌∙◌, List, Ok
 use Rattle.felica_format.specs.Read.{Answer as Reading}
 use Rattle.felica_command.specs.Meaning.{fields_of, ParserResult, meaning}
 use Rattle.felica_command.specs.Places.{Places, places_of, read_places}
-use Rattle.felica_command.specs.declared.command.FelicaStandardCommand.{FelicaStandardCommand}
 use Rattle.felica_command.specs.declared.command.Refusal.{Refusal}
 use Rattle.felica_lists.specs.Lists.{Buffers, Outcome, outcome}
 use Rattle.felica_write.specs.Writing as writer
@@ -12,10 +11,6 @@ use Rattle.felica_write.specs.Writing.{Written}
 use Rattle.felica_c.specs.declared.answer.FelicaWritten.{FelicaWritten}
 use Rattle.felica_c.specs.Boundary.{Lent, lent, parts_of, Told, told, answer, telling, written_answer}
 use Rattle.felica_c.specs.Fields.{Put, put_fields, tell, unwritten_by}
-
--- what an arm of `put_fields` puts is what its kind has
-pub arm : (kind k : FelicaStandardCommand) (p : Put) → kind ≡ k → p ≡ put_fields (fields_of k) → p ≡ put_fields (fields_of kind)
-arm kind k p is same = same ∙ ap (λ (x : FelicaStandardCommand). put_fields (fields_of x)) (sym is)
 
 -- what is told of a result is told of what the bytes give
 pub result_tells : (s : List ℕ) (at : ℕ) (reading : Reading) (r : ParserResult) (m : Lent) → meaning s r ≡ reading → places_of r ≡ read_places at s reading

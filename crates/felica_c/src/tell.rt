@@ -4,7 +4,7 @@ ghost use Rattle.felica_c.specs.Boundary.{lent, told};
 ghost use Rattle.felica_c.specs.Fields.{tell as tell_parsed, unwritten_by};
 
 use crate::answer::{FelicaAnswer, FelicaWritten};
-use crate::fields::put_fields;
+use crate::fields::{numbers_of, parts_of};
 use felica_command::command::{Parsed, Refusal};
 
 // Where the result is a command, all of `idm`, `challenge`, `fields` and `parts` are written, zero where the command lacks them. A refusal changes no byte.
@@ -22,11 +22,15 @@ pub fn tell(
             // By variables: the check knows no array that is copied from field to field.
             let its_idm = parsed.idm;
             let its_challenge = parsed.challenge;
+            let its_numbers = numbers_of(parsed.command);
+            let its_parts = parts_of(parsed.command);
             *idm = its_idm;
             *challenge = its_challenge;
+            *fields = its_numbers;
+            *parts = its_parts;
             FelicaAnswer {
                 refusal: 0,
-                code: put_fields(parsed.command, fields, parts),
+                code: parsed.command.command_code(),
                 long_count: u16::from(parsed.long),
             }
         }
