@@ -15,11 +15,8 @@ use Rattle.felica_c.specs.Fields.{Put, put_fields, tell, unwritten_by}
 -- what is told of a result is told of what the bytes give
 pub result_tells : (s : List ℕ) (at : ℕ) (reading : Reading) (r : ParserResult) (m : Lent) → meaning s r ≡ reading → places_of r ≡ read_places at s reading
     → tell r m ≡ telling at s reading m
-result_tells s at reading (Ok p) m means placed =
-    let f = put_fields (fields_of p.command) in
-    ap (λ (q : Places). told (answer 0 f.code p.long) (lent p.idm p.challenge f.fields (parts_of q))) (placed ∙ ap (read_places at s) (sym means))
-    ∙ ap (λ (x : Reading). telling at s x m) means
-result_tells s at reading (Err why) m means placed = ap (λ (x : Reading). telling at s x m) means
+result_tells s at reading (Ok p) m means placed = let at_its = rw (← means) at placed in rw (← means) cc
+result_tells s at reading (Err why) m means placed = cc
 
 -- the same of the list reader's result p, with its buffers b
 pub list_tells : (s : List ℕ) (at : ℕ) (o : Outcome) (p : ParserResult) (b : Buffers) (m : Lent) (t : Told) → outcome (meaning s p) b ≡ o
@@ -27,25 +24,11 @@ pub list_tells : (s : List ℕ) (at : ℕ) (o : Outcome) (p : ParserResult) (b :
 list_tells s at o p b m t is placed tells =
     (tells ∙ result_tells s at (meaning s p) p m refl placed ∙ ap (λ (x : Outcome). telling at s x.answer m) is, ap (λ (x : Outcome). x.buffers) is)
 
--- the writer's result w, told as r
-length_told : (w : Written) (n : ℕ) → w ≡ Ok n → record { refusal = 0; length = n } ≡ written_answer (writer.meaning w)
-length_told w n is = ap (λ (x : Written). written_answer (writer.meaning x)) (sym is)
-
-refusal_told : (why : Refusal) → unwritten_by why ≡ written_answer (writer.meaning (Err why))
-refusal_told why = refl
-
-unwritten_told : (w : Written) (why : Refusal) (r : FelicaWritten) → w ≡ Err why → r ≡ unwritten_by why → r ≡ written_answer (writer.meaning w)
-unwritten_told w why r is same = same ∙ refusal_told why ∙ ap (λ (x : Written). written_answer (writer.meaning x)) (sym is)
-
-write_tells : (o : writer.Outcome) (w : Written) (after : List ℕ) (r : FelicaWritten) → writer.outcome (writer.meaning w) after ≡ o
-    → r ≡ written_answer (writer.meaning w) → (r ≡ written_answer o.answer) × (after ≡ o.buffer)
-write_tells o w after r is same =
-    (same ∙ ap (λ (x : writer.Outcome). written_answer x.answer) is, ap (λ (x : writer.Outcome). x.buffer) is)
-
+-- the same of the writer's result w, with its buffer afterwards
 pub length_tells : (o : writer.Outcome) (w : Written) (n : ℕ) (after : List ℕ) → writer.outcome (writer.meaning w) after ≡ o → w ≡ Ok n
     → (record { refusal = 0; length = n } ≡ written_answer o.answer) × (after ≡ o.buffer)
-length_tells o w n after is wrote = write_tells o w after _ is (length_told w n wrote)
+length_tells o w n after is wrote = rw (← is, wrote) (refl, refl)
 
 pub refusal_tells : (o : writer.Outcome) (w : Written) (why : Refusal) (r : FelicaWritten) (after : List ℕ) → writer.outcome (writer.meaning w) after ≡ o
     → w ≡ Err why → r ≡ unwritten_by why → (r ≡ written_answer o.answer) × (after ≡ o.buffer)
-refusal_tells o w why r after is refused same = write_tells o w after r is (unwritten_told w why r refused same)
+refusal_tells o w why r after is refused same = rw (← is, refused) (same, refl)

@@ -3,15 +3,15 @@ ghost use Rattle.std.specs.Prelude.{◌≡◌};
 ghost use Rattle.felica_command.specs.Meaning.{fields_of};
 ghost use Rattle.felica_c.specs.Fields.{put_fields};
 
-use felica_command::command::{FelicaStandardCommand, Part};
+use felica_command::command::{FelicaStandardCommand as Command, Part};
 use felica_command::lists::Lists;
 
 // Selector, number, index, option, choice.
-pub(crate) fn numbers_of(command: FelicaStandardCommand) -> [u16; 5]
+pub(crate) fn numbers_of(command: Command) -> [u16; 5]
     ensures { result ≡ (put_fields (fields_of command)).fields }
 {
     match command {
-        FelicaStandardCommand::Polling {
+        Command::Polling {
             system_code,
             request_code,
             time_slots,
@@ -22,12 +22,12 @@ pub(crate) fn numbers_of(command: FelicaStandardCommand) -> [u16; 5]
             u16::from(request_code),
             u16::from(time_slots),
         ],
-        FelicaStandardCommand::SearchServiceCode { service_index } => [0, service_index, 0, 0, 0],
-        FelicaStandardCommand::RequestCodeList {
+        Command::SearchServiceCode { service_index } => [0, service_index, 0, 0, 0],
+        Command::RequestCodeList {
             parent_node_code,
             index,
         } => [0, parent_node_code.0, index, 0, 0],
-        FelicaStandardCommand::SetParameter {
+        Command::SetParameter {
             encryption_type,
             packet_type,
         } => [
@@ -37,26 +37,27 @@ pub(crate) fn numbers_of(command: FelicaStandardCommand) -> [u16; 5]
             u16::from(encryption_type.to_byte()),
             u16::from(packet_type.to_byte()),
         ],
-        FelicaStandardCommand::GetAreaInformation { node_code }
-        | FelicaStandardCommand::RegisterArea {
+        Command::GetAreaInformation { node_code }
+        | Command::RegisterArea {
             area_code: node_code,
             ..
         } => [0, node_code.0, 0, 0, 0],
-        FelicaStandardCommand::GetNodeProperty {
-            node_property_type, ..
+        Command::GetNodeProperty {
+            node_property_type,
+            ..
         } => [u16::from(node_property_type.to_byte()), 0, 0, 0, 0],
-        FelicaStandardCommand::GetContainerProperty { property } => [0, property.index(), 0, 0, 0],
-        FelicaStandardCommand::Authentication1V2 {
+        Command::GetContainerProperty { property } => [0, property.index(), 0, 0, 0],
+        Command::Authentication1V2 {
             operation_parameter,
             ..
         } => [u16::from(operation_parameter), 0, 0, 0, 0],
-        FelicaStandardCommand::RegisterService { service_code, .. } => [0, service_code.0, 0, 0, 0],
+        Command::RegisterService { service_code, .. } => [0, service_code.0, 0, 0, 0],
         _ => [0; 5],
     }
 }
 
 // Start and count of each part.
-pub(crate) fn parts_of(command: FelicaStandardCommand) -> [usize; 10]
+pub(crate) fn parts_of(command: Command) -> [usize; 10]
     ensures { result ≡ (put_fields (fields_of command)).parts }
 {
     let Lists {
@@ -80,24 +81,24 @@ pub(crate) fn parts_of(command: FelicaStandardCommand) -> [usize; 10]
     ]
 }
 
-fn data_of(command: FelicaStandardCommand) -> Part
+fn data_of(command: Command) -> Part
     ensures { result ≡ (fields_of command).block_data }
 {
     match command {
-        FelicaStandardCommand::WriteWithoutEncryption { data, .. }
-        | FelicaStandardCommand::Write { data, .. }
-        | FelicaStandardCommand::WriteV2 { data, .. } => data,
+        Command::WriteWithoutEncryption { data, .. }
+        | Command::Write { data, .. }
+        | Command::WriteV2 { data, .. } => data,
         _ => Part::default(),
     }
 }
 
-fn package_of(command: FelicaStandardCommand) -> Part
+fn package_of(command: Command) -> Part
     ensures { result ≡ (fields_of command).issue_package }
 {
     match command {
-        FelicaStandardCommand::RegisterIssueId { package }
-        | FelicaStandardCommand::RegisterArea { package, .. }
-        | FelicaStandardCommand::RegisterService { package, .. } => package,
+        Command::RegisterIssueId { package }
+        | Command::RegisterArea { package, .. }
+        | Command::RegisterService { package, .. } => package,
         _ => Part::default(),
     }
 }
