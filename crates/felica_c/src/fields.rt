@@ -15,13 +15,7 @@ pub(crate) fn numbers_of(command: Command) -> [u16; 5]
             system_code,
             request_code,
             time_slots,
-        } => [
-            0,
-            system_code,
-            0,
-            u16::from(request_code),
-            u16::from(time_slots),
-        ],
+        } => [0, system_code, 0, request_code.into(), time_slots.into()],
         Command::SearchServiceCode { service_index } => [0, service_index, 0, 0, 0],
         Command::RequestCodeList {
             parent_node_code,
@@ -34,23 +28,20 @@ pub(crate) fn numbers_of(command: Command) -> [u16; 5]
             0,
             0,
             0,
-            u16::from(encryption_type.to_byte()),
-            u16::from(packet_type.to_byte()),
+            encryption_type.to_byte().into(),
+            packet_type.to_byte().into(),
         ],
-        Command::GetAreaInformation { node_code }
-        | Command::RegisterArea {
-            area_code: node_code,
-            ..
-        } => [0, node_code.0, 0, 0, 0],
+        Command::GetAreaInformation { node_code } => [0, node_code.0, 0, 0, 0],
         Command::GetNodeProperty {
             node_property_type,
             ..
-        } => [u16::from(node_property_type.to_byte()), 0, 0, 0, 0],
+        } => [node_property_type.to_byte().into(), 0, 0, 0, 0],
         Command::GetContainerProperty { property } => [0, property.index(), 0, 0, 0],
         Command::Authentication1V2 {
             operation_parameter,
             ..
-        } => [u16::from(operation_parameter), 0, 0, 0, 0],
+        } => [operation_parameter.into(), 0, 0, 0, 0],
+        Command::RegisterArea { area_code, .. } => [0, area_code.0, 0, 0, 0],
         Command::RegisterService { service_code, .. } => [0, service_code.0, 0, 0, 0],
         _ => [0; 5],
     }
