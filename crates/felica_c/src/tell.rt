@@ -22,12 +22,10 @@ pub fn tell(
             // By variables: the check knows no array that is copied from field to field.
             let its_idm = parsed.idm;
             let its_challenge = parsed.challenge;
-            let its_numbers = numbers_of(parsed.command);
-            let its_parts = parts_of(parsed.command);
             *idm = its_idm;
             *challenge = its_challenge;
-            *fields = its_numbers;
-            *parts = its_parts;
+            *fields = numbers_of(parsed.command);
+            *parts = parts_of(parsed.command);
             FelicaAnswer {
                 refusal: 0,
                 code: parsed.command.command_code(),
