@@ -1,10 +1,9 @@
 -- Laws of what a call puts and tells.
 -- Assumes nothing.
-use Rattle.std.proofs.Common.{ℕ, ◌≡◌, refl, sym, ap, ◌∙◌, List, Ok, Err}
+use Rattle.std.proofs.Common.{ℕ, ◌≡◌, refl, ◌∙◌, List, Ok, Err}
 use Rattle.felica_format.specs.Read.{Answer as Reading}
-use Rattle.felica_command.specs.Meaning.{fields_of, ParserResult, meaning}
-use Rattle.felica_command.specs.Places.{Places, places_of, read_places}
-use Rattle.felica_command.specs.declared.command.FelicaStandardCommand.{FelicaStandardCommand}
+use Rattle.felica_command.specs.Meaning.{ParserResult, meaning}
+use Rattle.felica_command.specs.Places.{places_of, read_places}
 use Rattle.felica_command.specs.declared.command.Refusal.{Refusal}
 use Rattle.felica_lists.specs.Lists.{buffers, Outcome, outcome}
 use Rattle.felica_lists.specs.Lent.{held}
@@ -13,21 +12,14 @@ use Rattle.felica_lists.specs.declared.buffers.ListBuffers.{ListBuffers}
 use Rattle.felica_write.specs.Writing as writer
 use Rattle.felica_write.specs.Writing.{Written}
 use Rattle.felica_c.specs.declared.answer.FelicaWritten.{FelicaWritten}
-use Rattle.felica_c.specs.Boundary.{Lent, lent, parts_of, Told, told, answer, telling, written_answer}
-use Rattle.felica_c.specs.Fields.{Put, put_fields, tell, unwritten_by}
-
--- what an arm of `put_fields` puts is what its kind has
-pub arm : (kind k : FelicaStandardCommand) (p : Put) → kind ≡ k → p ≡ put_fields (fields_of k) → p ≡ put_fields (fields_of kind)
-arm kind k p is same = same ∙ ap (λ (x : FelicaStandardCommand). put_fields (fields_of x)) (sym is)
+use Rattle.felica_c.specs.Boundary.{Lent, Told, telling, written_answer}
+use Rattle.felica_c.specs.Fields.{tell, unwritten_by}
 
 -- what is told of a result is told of what the bytes give
 pub result_tells : (s : List ℕ) (at : ℕ) (reading : Reading) (r : ParserResult) (m : Lent) → meaning s r ≡ reading → places_of r ≡ read_places at s reading
     → tell r m ≡ telling at s reading m
-result_tells s at reading (Ok p) m means placed =
-    let f = put_fields (fields_of p.command) in
-    ap (λ (q : Places). told (answer 0 f.code p.long) (lent p.idm p.challenge f.fields (parts_of q))) (placed ∙ ap (read_places at s) (sym means))
-    ∙ ap (λ (x : Reading). telling at s x m) means
-result_tells s at reading (Err why) m means placed = ap (λ (x : Reading). telling at s x m) means
+result_tells s at reading (Ok p) m means placed = rw (← means) cc
+result_tells s at reading (Err why) m means placed = cc
 
 -- the same of the list reader's result p, with the lent buffers o
 pub list_tells : (s : List ℕ) (at : ℕ) (all : Outcome) (p : ParserResult) (o : ListBuffers) (m : Lent) (t : Told) {first second numbers places modes : List ℕ}
@@ -35,28 +27,13 @@ pub list_tells : (s : List ℕ) (at : ℕ) (all : Outcome) (p : ParserResult) (o
     → first ≡ o.first.now → second ≡ o.second.now → numbers ≡ o.numbers.now → places ≡ o.places.now → modes ≡ o.modes.now
     → (t ≡ telling at s all.answer m) × (buffers first second numbers places modes ≡ all.buffers)
 list_tells s at all p o m t is placed tells e₁ e₂ e₃ e₄ e₅ =
-    (tells ∙ result_tells s at (meaning s p) p m refl placed ∙ ap (λ (x : Outcome). telling at s x.answer m) is,
-     buffers_of o e₁ e₂ e₃ e₄ e₅ ∙ ap (λ (x : Outcome). x.buffers) is)
+    rw (← is) (tells ∙ result_tells s at _ p m refl placed, buffers_of o e₁ e₂ e₃ e₄ e₅)
 
--- the writer's result w, told as r
-length_told : (w : Written) (n : ℕ) → w ≡ Ok n → record { refusal = 0; length = n } ≡ written_answer (writer.meaning w)
-length_told w n is = ap (λ (x : Written). written_answer (writer.meaning x)) (sym is)
-
-refusal_told : (why : Refusal) → unwritten_by why ≡ written_answer (writer.meaning (Err why))
-refusal_told why = refl
-
-unwritten_told : (w : Written) (why : Refusal) (r : FelicaWritten) → w ≡ Err why → r ≡ unwritten_by why → r ≡ written_answer (writer.meaning w)
-unwritten_told w why r is same = same ∙ refusal_told why ∙ ap (λ (x : Written). written_answer (writer.meaning x)) (sym is)
-
-write_tells : (o : writer.Outcome) (w : Written) (after : List ℕ) (r : FelicaWritten) → writer.outcome (writer.meaning w) after ≡ o
-    → r ≡ written_answer (writer.meaning w) → (r ≡ written_answer o.answer) × (after ≡ o.buffer)
-write_tells o w after r is same =
-    (same ∙ ap (λ (x : writer.Outcome). written_answer x.answer) is, ap (λ (x : writer.Outcome). x.buffer) is)
-
+-- the same of the writer's result w, with its buffer afterwards
 pub length_tells : (o : writer.Outcome) (w : Written) (n : ℕ) (after : List ℕ) → writer.outcome (writer.meaning w) after ≡ o → w ≡ Ok n
     → (record { refusal = 0; length = n } ≡ written_answer o.answer) × (after ≡ o.buffer)
-length_tells o w n after is wrote = write_tells o w after _ is (length_told w n wrote)
+length_tells o w n after is wrote = rw (← is, wrote) (refl, refl)
 
 pub refusal_tells : (o : writer.Outcome) (w : Written) (why : Refusal) (r : FelicaWritten) (after : List ℕ) → writer.outcome (writer.meaning w) after ≡ o
     → w ≡ Err why → r ≡ unwritten_by why → (r ≡ written_answer o.answer) × (after ≡ o.buffer)
-refusal_tells o w why r after is refused same = write_tells o w after r is (unwritten_told w why r refused same)
+refusal_tells o w why r after is refused same = rw (← is, refused) (same, refl)
