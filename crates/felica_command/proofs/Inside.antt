@@ -1,14 +1,7 @@
 -- Every part that the definitions name lies inside the payload: each step leaves what stands behind its own bytes, and these are there.
 -- Assumes nothing.
-use Prim.Native.Nat.{ℕ, zero, suc, ◌+◌, ◌*◌, ◌≤◌}
-use native.Mathlib.Omega.{arith}
-use mathlib.Core.Path.{◌≡◌, refl, sym, ap, ◌∙◌, subst}
-use mathlib.Core.Bool.{Bool, true, false, cond}
-use mathlib.Core.List.{List, [], ◌∷◌, map}
-use lib.ListN.{length, get_or, take, drop, length-drop, length-map}
-use lib.Seq.{drop-drop, length-take-le}
-use lib.Dec.{ltb}
-use borrow.Author.Tests.{ltb-false}
+use Rattle.std.proofs.Common.{ℕ, zero, suc, ◌+◌, ◌*◌, ◌≤◌, arith, ◌≡◌, refl, sym, ap, ◌∙◌, subst, Bool, true, false, cond, List, [], ◌∷◌, map, length, get_or, take, drop, length-drop, drop-drop, length-take-le, ltb, ltb-false}
+use Rattle.std.proofs.lemmas.List.{length-map}
 use Rattle.felica_format.specs.Basic.{Step, taken, refuse, bind, refuse_if}
 use Rattle.felica_format.specs.Command.{Element, Formed, EndFields}
 use Rattle.felica_format.specs.Layout.{Selector, no_selector, type_byte, any_byte, Codes, no_codes, ◌to◌, Ending, bytes, word, words, reserved, polling, parameter}

@@ -1,13 +1,6 @@
 -- The part that a step names is the part that the layout names.
 -- Assumes nothing.
-use Prim.Native.Nat.{ℕ, ◌*◌, ◌≤◌}
-use native.Mathlib.Omega.{arith}
-use mathlib.Core.Path.{◌≡◌, ap, ◌∙◌}
-use mathlib.Core.Bool.{true}
-use mathlib.Core.List.{List}
-use lib.ListN.{length, take, drop}
-use lib.Seq.{take_all, length-take-le}
-use borrow.Author.Tests.{ltb-false}
+use Rattle.std.proofs.Common.{ℕ, ◌*◌, ◌≤◌, arith, ◌≡◌, ap, ◌∙◌, true, List, length, take, drop, take_all, length-take-le, ltb-false}
 use Rattle.felica_format.specs.Basic.{taken}
 use Rattle.felica_format.specs.Read.{read_data}
 use Rattle.felica_format.proofs.Steps.{refuse_if_passed}

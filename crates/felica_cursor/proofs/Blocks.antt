@@ -1,13 +1,6 @@
 -- The walk over the elements of a block list: those taken stand in front of what the rest gives.
 -- Assumes nothing.
-use Prim.Native.Nat.{ℕ, suc, ◌+◌}
-use native.Mathlib.Omega.{arith}
-use mathlib.Core.Path.{◌≡◌, refl, sym, ap, ◌∙◌, subst}
-use mathlib.Core.Bool.{Bool, true, false, cond}
-use mathlib.Core.List.{List, [], ◌∷◌, ◌++◌, append_assoc, append-nil}
-use lib.Dec.{ltb}
-use lib.ListN.{get_or, drop}
-use lib.Seq.{get_or-drop}
+use Rattle.std.proofs.Common.{ℕ, suc, ◌+◌, arith, ◌≡◌, refl, sym, ap, ◌∙◌, subst, Bool, true, false, cond, List, [], ◌∷◌, ◌++◌, append_assoc, append-nil, ltb, get_or, drop, get_or-drop}
 use Rattle.felica_format.specs.Basic.{Step, taken, refuse, bind}
 use Rattle.felica_format.specs.Command.{Formed, long_count}
 use Rattle.felica_format.specs.Read.{read_element, read_each, read_long, read_short}

@@ -1,21 +1,12 @@
 -- The walk over the elements of a block list, and the one over few of them, by their first bytes alone.
 -- Assumes nothing.
-use Prim.Native.Nat.{ℕ, suc, ◌+◌, ◌-◌, ◌*◌, ◌/◌, ◌<◌, ◌≤◌}
-use native.Mathlib.Omega.{arith}
-use mathlib.Core.Path.{◌≡◌, refl, sym, ap, ◌∙◌, subst}
-use mathlib.Core.Logic.{◌⊎◌, inl, inr}
-use mathlib.Core.Bool.{Bool, true, false, cond}
-use mathlib.Core.List.{List, [], ◌∷◌, ◌++◌}
-use lib.Dec.{ltb, leb}
-use lib.ListN.{length, get_or, drop, length-append, length-drop}
-use borrow.Author.Tests.{ltb-true, ltb-false, leb-true, leb-false, lt-ltb, le-ltb}
+use Rattle.std.proofs.Common.{ℕ, suc, ◌+◌, ◌-◌, ◌*◌, ◌/◌, ◌<◌, ◌≤◌, arith, ◌≡◌, refl, sym, ap, ◌∙◌, subst, ◌⊎◌, inl, inr, Bool, true, false, cond, List, [], ◌∷◌, ◌++◌, ltb, leb, length, get_or, drop, length-append, length-drop, ltb-true, ltb-false, leb-true, leb-false, lt-ltb, le-ltb, Ok}
 use Rattle.felica_format.specs.Basic.{taken, refuse, word_of}
 use Rattle.felica_format.specs.Command.{Formed, long_count}
 use Rattle.felica_format.specs.Read.{element_of, formed, read_count, read_element, read_each, read_long, read_short}
 use Rattle.felica_format.proofs.Elements.{long_few}
 use Rattle.felica_format.proofs.Steps.{none_taken, taken_value, refuse_if_passed, refuse_if_taken}
 use Rattle.felica_format.proofs.Tests.{or_none}
-use Rattle.std.specs.Prelude.{Ok}
 use Rattle.felica_command.specs.Meaning.{part}
 use Rattle.felica_command.specs.Places.{element_size, elements_size}
 use Rattle.felica_command.proofs.Inside.{each_leaves}

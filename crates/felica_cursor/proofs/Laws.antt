@@ -1,25 +1,13 @@
 -- Laws of the steps on the bytes that are left at a position.
 -- Assumes nothing.
-use mathlib.Core.Path.{◌≡◌, refl, sym, ap, ◌∙◌}
-use mathlib.Core.Bool.{Bool, true, false, not}
-use mathlib.Core.List.{List, [], ◌∷◌}
-use Prim.Native.Nat.{ℕ, zero, suc, ◌+◌, ◌-◌, ◌<◌, ◌≤◌}
-use native.Mathlib.Numerals.{add-one}
-use native.Mathlib.Nat.{add-zero, add-suc}
-use native.Mathlib.Omega.{arith}
+use Rattle.std.proofs.Common.{◌≡◌, refl, sym, ap, ◌∙◌, Bool, true, false, not, List, [], ◌∷◌, ℕ, zero, suc, ◌+◌, ◌<◌, ◌≤◌, add-one, add-zero, add-suc, arith, ◌&&◌, ltb, leb, eqb, length, get_or, take, drop, drop-cons, drop-drop, get_or-drop, leb-true, leb-false, lt-ltb, le-ltb, Result, Ok, Err}
 use Rattle.std.specs.List.{list_all}
-use Rattle.std.specs.Prelude.{◌&&◌}
-use lib.Dec.{ltb, leb, eqb}
-use lib.ListN.{length, get_or, take, drop, length-drop, length-replicate, replicate-append-replicate}
-use lib.Seq.{drop-cons, drop-drop, get_or-drop, drop_at}
-use borrow.Author.Tests.{ltb-false, leb-true, leb-false, lt-ltb, le-ltb}
 use Rattle.felica_format.specs.Basic.{Step, taken, refuse, refuse_if, zeros, word_of, word_at, ◌and◌}
 use Rattle.felica_format.specs.Command.{end_fields, no_fields}
 use Rattle.felica_format.specs.Layout.{Ending, bare, polling, nothing}
 use Rattle.felica_format.specs.Read.{words_of, read_long, read_short, read_ending, read_values, size_of, zero_at, is_time_slots}
 use Rattle.felica_format.proofs.Steps.{none_taken}
 use Rattle.felica_command.specs.Places.{element_size, elements_size}
-use Rattle.std.specs.Prelude.{Result, Ok, Err}
 use Rattle.felica_format.specs.Reasons.{number_of}
 use Rattle.felica_format.specs.declared.error.Reason.{Reason}
 use Rattle.felica_cursor.specs.Taken.{rest, Takes, To}
@@ -63,12 +51,6 @@ size_more s at next k n p q =
 pub size_done : (s : List ℕ) (at k : ℕ) → k ≡ 0 → at + elements_size k (drop at s) ≡ at
 unfolding elements_size
 size_done s at k p = rw p (add-zero at)
-
-pub drop_zeros : (k n : ℕ) → k ≤ n → drop k (zeros n) ≡ zeros (n - k)
-drop_zeros k n h =
-    let e : k + (n - k) ≡ n = omega arith in
-    ap (λ (m : ℕ). drop k (zeros m)) (sym e) ∙ ap (drop k) (sym (replicate-append-replicate k (n - k) 0)) ∙
-    drop_at (zeros k) (zeros (n - k)) k (length-replicate k 0)
 
 -- bytes that are all 00
 pub zero_all : (n at : ℕ) (s : List ℕ) → at + n ≤ length s → list_all (λ b. eqb b 0) (take n (drop at s)) ≡ zero_at n s at
@@ -127,14 +109,6 @@ unfolding measured read_ending
 ending_taken e l v r h =
     (taken_both (ltb (length l) (size_of e)) (ltb (size_of e) (length l)) (taken (size_of e) l) (read_values e l) v r h).2
 
-measured_size : (n : ℕ) (l : List ℕ) (v : ℕ) (r : List ℕ) → measured n l ≡ taken v r → length l ≡ n
-unfolding measured
-measured_size n l v r h =
-    let t = taken_both (ltb (length l) n) (ltb n (length l)) (taken n l) (taken n l) v r h in
-    let a = ltb-false (length l) n t.0 in
-    let b = ltb-false n (length l) t.1 in
-    omega arith
-
 measured_rest : (n : ℕ) (l : List ℕ) (v : ℕ) (r : List ℕ) → measured n l ≡ taken v r → r ≡ l
 unfolding measured
 measured_rest n l v r h =
@@ -148,10 +122,6 @@ unfolding read_values
 end_measured c (Ok p) t =
     record { read = ending_taken bare (rest c) 0 (rest p.1) t.read ∙ ap (λ (x : List ℕ). taken no_fields x) (sym (measured_rest 0 (rest c) 0 (rest p.1) t.read)); placed = t.placed.0 }
 end_measured c (Err why) t = record { read = ending_refused bare (rest c) (number_of why) t.read; placed = tt }
-
--- bytes that were measured, some of them, stand from their place to the end
-pub measured_fits : (s : List ℕ) (at n : ℕ) {v : ℕ} {r : List ℕ} → measured n (drop at s) ≡ taken v r → 0 < n → at + n ≡ length s
-measured_fits s at n {v} {r} h p = omega (arith, simp length-drop at (measured_size n (drop at s) v r h))
 
 pub ltb_not_leb : (a b : ℕ) → ltb b a ≡ not (leb a b)
 ltb_not_leb a b = go (leb a b) refl

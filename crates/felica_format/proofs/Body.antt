@@ -1,13 +1,7 @@
 -- The laws of a whole body, from those of its parts.
 -- Assumes nothing.
-use Prim.Native.Nat.{ℕ, ◌≤◌, ◌<◌}
-use native.Mathlib.Omega.{arith}
-use mathlib.Core.Path.{◌≡◌, refl, sym, ap, ◌∙◌, subst₂}
-use mathlib.Core.Logic.{inl, inr}
-use mathlib.Core.Bool.{Bool, true}
-use mathlib.Core.List.{List, [], ◌++◌, append_assoc, map}
-use lib.ListN.{length, length-append, length-map}
-use borrow.Author.Tests.{eq-eqb}
+use Rattle.std.proofs.Common.{ℕ, ◌≤◌, ◌<◌, arith, ◌≡◌, refl, sym, ap, ◌∙◌, subst₂, inl, inr, Bool, true, List, [], ◌++◌, append_assoc, map, length, length-append, eq-eqb}
+use Rattle.std.proofs.lemmas.List.{length-map}
 use Rattle.felica_format.specs.Basic.{Bytes, Step, taken, bind}
 use Rattle.felica_format.specs.Command.{Command, Element, Formed, long_count, elements_of, end_fields_of, command_of}
 use Rattle.felica_format.specs.Layout.{Layout, bounds_of}

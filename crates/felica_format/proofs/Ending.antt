@@ -1,15 +1,8 @@
 -- The laws of the fixed bytes that end a body, and of what stands behind them.
 -- Assumes nothing.
-use Prim.Native.Nat.{ℕ, ◌+◌, ◌/◌, ◌%◌, ◌-◌, ◌≤◌, ◌<◌}
-use native.Mathlib.Nat.{lt_of_lt_of_le}
-use native.Mathlib.Omega.{arith}
-use mathlib.Core.Path.{◌≡◌, refl, sym, ap, ◌∙◌, subst₂}
-use mathlib.Core.Bool.{Bool, true, false}
-use mathlib.Core.List.{List, [], ◌++◌, append-nil}
-use lib.ListN.{length, get_or, take, drop, length-append, length-replicate, take-append-drop}
-use lib.Dec.{lit≤}
-use lib.Seq.{take_at, drop_at, length-take-le}
-use borrow.Author.Tests.{ltb-true, ltb-false, leb-true, eqb-true, not-false, lt-ltb, le-ltb, le-leb, eq-eqb}
+use Rattle.std.proofs.Common.{ℕ, ◌+◌, ◌/◌, ◌%◌, ◌-◌, ◌≤◌, ◌<◌, lt_of_lt_of_le, arith, ◌≡◌, refl, sym, ap, ◌∙◌, subst₂, Bool, true, false, List, [], ◌++◌, append-nil, length, get_or, take, drop, length-append, take-append-drop, lit≤, take_at, drop_at, length-take-le, ltb-true, ltb-false, leb-true, eqb-true, lt-ltb, le-ltb, le-leb, eq-eqb}
+use Rattle.std.proofs.lemmas.Bool.{not-false}
+use Rattle.std.proofs.lemmas.List.{length-replicate}
 use Rattle.felica_format.specs.Basic.{◌and◌, Bytes, zeros, word_of, word_at, taken, refuse_if}
 use Rattle.felica_format.specs.Command.{EndFields, end_fields}
 use Rattle.felica_format.specs.Layout.{Ending, bytes, word, words, reserved, polling, parameter, Behind, nothing, ignored_bytes, a_package}

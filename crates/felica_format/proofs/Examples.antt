@@ -1,6 +1,6 @@
 -- The tables of specs/Examples.antt, computed.
 -- Assumes nothing.
-use mathlib.Core.Path.{refl}
+use Rattle.std.proofs.Common.{refl}
 use Rattle.felica_format.specs.Basic.{◌and◌, bind, refuse_if}
 use Rattle.felica_format.specs.Layout.{plain_rows, secure_rows, has, class_of, layout_in, layout_of}
 use Rattle.felica_format.specs.Read.{read_idm, read_selector, read_count, words_of, read_words, read_codes, read_short, read_long, read_element, read_each}

@@ -1,14 +1,6 @@
 -- The laws of reading and writing one part, and of parts made of other parts.
 -- Assumes nothing.
-use Prim.Native.Nat.{ℕ, ◌+◌, ◌≤◌, ◌<◌}
-use native.Mathlib.Omega.{arith}
-use mathlib.Core.Path.{subst, ◌≡◌, refl, sym, ap, ◌∙◌}
-use mathlib.Core.Bool.{Bool, true, false, ◌||◌}
-use mathlib.Core.List.{List, [], ◌∷◌, ◌++◌}
-use lib.ListN.{length, take, drop, length-append, take-append-drop}
-use lib.Seq.{take_at, drop_at, length-take-le}
-use lib.Dec.{ltb, leb, eqb}
-use borrow.Author.Tests.{ltb-false, leb-true, eqb-true, le-ltb, eq-eqb}
+use Rattle.std.proofs.Common.{ℕ, ◌+◌, ◌≤◌, ◌<◌, arith, subst, ◌≡◌, refl, sym, ap, ◌∙◌, Bool, true, false, ◌||◌, List, [], ◌∷◌, ◌++◌, length, take, drop, length-append, take-append-drop, take_at, drop_at, length-take-le, ltb, leb, eqb, ltb-false, leb-true, eqb-true, le-ltb, eq-eqb}
 use Rattle.felica_format.specs.Basic.{◌and◌, Bytes, Step, taken, refuse, bind, refuse_if}
 use Rattle.felica_format.specs.Read.{read_bytes, read_count}
 use Rattle.felica_format.specs.Writable.{are_bytes}

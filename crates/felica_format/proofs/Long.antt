@@ -1,7 +1,6 @@
 -- The form of an element, and two frames of one command: the statements of specs/Long.antt that need no choice of forms, each proved under its name.
 -- Assumes nothing.
-use mathlib.Core.Path.{refl}
-use mathlib.Core.List.{[], ◌∷◌, ◌++◌}
+use Rattle.std.proofs.Common.{refl, [], ◌∷◌, ◌++◌}
 use Rattle.felica_format.specs.Basic.{◌and◌, bind, refuse_if}
 use Rattle.felica_format.specs.Command.{command_of, no_fields}
 use Rattle.felica_format.specs.Layout.{plain_rows, secure_rows, has, class_of, layout_in, layout_of}

@@ -1,14 +1,6 @@
 -- The laws of IDm, selector, code lists and data, each there or not.
 -- Assumes nothing.
-use Prim.Native.Nat.{ℕ, zero, suc, ◌+◌, ◌*◌, ◌/◌, ◌%◌, ◌≤◌, ◌<◌}
-use native.Mathlib.Omega.{arith}
-use mathlib.Core.Path.{◌≡◌, refl, ap}
-use mathlib.Core.Bool.{Bool, true, false}
-use mathlib.Core.List.{List, [], ◌∷◌, ◌++◌}
-use lib.ListN.{length, drop, length-append}
-use lib.Seq.{drop_at}
-use lib.Dec.{ltb, leb, eqb}
-use borrow.Author.Tests.{ltb-true, ltb-false, eqb-true}
+use Rattle.std.proofs.Common.{ℕ, zero, suc, ◌+◌, ◌*◌, ◌/◌, ◌%◌, ◌≤◌, ◌<◌, arith, ◌≡◌, refl, ap, Bool, true, false, List, [], ◌∷◌, ◌++◌, length, drop, length-append, drop_at, ltb, leb, eqb, ltb-true, ltb-false, eqb-true}
 use Rattle.felica_format.specs.Basic.{◌and◌, all_below, Bytes, zeros, refuse_if}
 use Rattle.felica_format.specs.Layout.{Selector, no_selector, type_byte, any_byte, Codes, no_codes, ◌to◌, bounds_of}
 use Rattle.felica_format.specs.Read.{read_idm, read_selector, words_of, read_words, read_codes, read_data}

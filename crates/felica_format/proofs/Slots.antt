@@ -1,14 +1,8 @@
 -- The time slots: the statements of specs/Slots.antt, each proved under its name. Below 16 the formula and the list are computed, from there up neither
 -- takes a number.
 -- Assumes nothing.
-use Prim.Native.Nat.{ℕ, ◌≤◌}
-use native.Mathlib.Omega.{arith}
-use mathlib.Core.Path.{◌≡◌, refl, sym, ap, ap₂, ◌∙◌}
-use mathlib.Core.Bool.{Bool, true, false}
-use mathlib.Core.List.{List, [], ◌∷◌}
-use lib.ListN.{length, get_or, drop, drop_of_length-le}
-use lib.Dec.{ltb}
-use borrow.Author.Tests.{ltb-true, ltb-false, not-false, le-ltb}
+use Rattle.std.proofs.Common.{ℕ, ◌≤◌, arith, ◌≡◌, refl, sym, ap, ap₂, ◌∙◌, Bool, true, false, List, [], ◌∷◌, length, get_or, drop, drop_of_length-le, ltb, ltb-true, ltb-false, le-ltb}
+use Rattle.std.proofs.lemmas.Bool.{not-false}
 use Rattle.felica_format.specs.Basic.{◌and◌, is_one_of, taken, bind, refuse_if}
 use Rattle.felica_format.specs.Layout.{plain_rows, has, class_of, layout_in, layout_of, polling, nothing}
 use Rattle.felica_format.specs.Read.{is_time_slots, read_idm, read_selector, read_codes, read_elements, read_data, read_values, read_ending, read_package, read_body}

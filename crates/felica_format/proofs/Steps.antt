@@ -1,11 +1,6 @@
 -- Steps that took something, and steps that refused.
 -- Assumes nothing.
-use Prim.Native.Nat.{ℕ}
-use native.Mathlib.Omega.{arith}
-use mathlib.Core.Path.{◌≡◌, refl}
-use mathlib.Core.Bool.{Bool, true, false}
-use mathlib.Core.List.{List}
-use Rattle.std.specs.Prelude.{Option}
+use Rattle.std.proofs.Common.{ℕ, arith, ◌≡◌, refl, Bool, true, false, List, Option}
 use Rattle.felica_format.specs.Basic.{Step, taken, refuse, bind, refuse_if}
 use Rattle.felica_format.specs.Command.{Command}
 use Rattle.felica_format.specs.Read.{gives, refused}

@@ -1,11 +1,6 @@
 -- A rule and the table of its values, which antt computes: each entry is the rule's value, so two rules with one table agree.
 -- Assumes nothing.
-use Prim.Native.Nat.{ℕ, zero, suc, ◌+◌, ◌<◌}
-use native.Mathlib.Nat.{add-zero, zero-add}
-use native.Mathlib.Omega.{arith}
-use mathlib.Core.Path.{◌≡◌, sym, ap, ◌∙◌}
-use mathlib.Core.List.{List, [], ◌∷◌}
-use lib.ListN.{get_or}
+use Rattle.std.proofs.Common.{ℕ, zero, suc, ◌+◌, ◌<◌, add-zero, zero-add, arith, ◌≡◌, sym, ap, ◌∙◌, List, [], ◌∷◌, get_or}
 
 module _ {A : Type 0} where
   -- the rule's values at i, i + 1, .., n of them

@@ -1,11 +1,6 @@
 -- A block list as elements and as three lists: one is made of the other and back.
 -- Assumes nothing.
-use Prim.Native.Nat.{ℕ}
-use native.Mathlib.Omega.{arith}
-use mathlib.Core.Path.{◌≡◌, refl, ap}
-use mathlib.Core.Bool.{true}
-use mathlib.Core.List.{List, [], ◌∷◌, map}
-use lib.ListN.{length}
+use Rattle.std.proofs.Common.{ℕ, arith, ◌≡◌, refl, ap, true, List, [], ◌∷◌, map, length}
 use Rattle.felica_format.specs.Command.{Command, Element, zip_elements, elements_of}
 use Rattle.felica_format.specs.Writable.{same_length, one_length}
 use Rattle.felica_format.proofs.Tests.{tests, and_left, and_right}

@@ -5,19 +5,11 @@ use Rattle.felica_format.specs.Read.{Answer as Reading}
 use Rattle.felica_command.specs.Meaning.{fields_of, ParserResult, meaning, Canonical}
 use Rattle.felica_command.specs.Places.{places_of, read_places, Inside}
 use Rattle.felica_command.specs.Lists.{lists_in}
-use Rattle.felica_command.specs.declared.command.Parsed.{Parsed}
-use Rattle.felica_command.specs.declared.lists.Lists.{Lists}
 use Rattle.felica_command.proofs.Inside.{none_inside}
 use Rattle.felica_command.proofs.Settled.{Settled}
 use Rattle.felica_lists.specs.Lists.{Buffers, fits}
 use Rattle.felica_lists.specs.Rules.{ListAccount}
-use Rattle.felica_lists.specs.Fill.{lists_at, ListsInside, Given, given, give}
-
--- a command, with its lists
-pub lists_inside : (s : List ℕ) (r : ParserResult) (p : Parsed) {l : Lists} → r ≡ Ok p → l ≡ lists_in (fields_of p.command) → Inside s (places_of r) → ListsInside s l
-lists_inside s r p {l} e is inside =
-    let q = subst (λ (x : ParserResult). Inside s (places_of x)) e inside in
-    subst (λ (x : Lists). ListsInside s x) (sym is) (q.0, q.1, q.2)
+use Rattle.felica_lists.specs.Fill.{lists_at, Given, given, give}
 
 -- what the contract says of a result and the buffers behind it
 abbrev Told : List ℕ → ℕ → Reading → Buffers → Given → Type 0

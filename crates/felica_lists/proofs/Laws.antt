@@ -1,14 +1,8 @@
 -- Lists written to the front of a buffer entry by entry. A loop's invariant is stated of what is left: storing the rest from here gives what storing all
 -- from the start gives.
 -- Assumes nothing.
-use Prim.Native.Nat.{ℕ, suc, ◌+◌, ◌≤◌}
-use native.Mathlib.Nat.{zero-add}
-use native.Mathlib.Numerals.{add-one}
-use native.Mathlib.Omega.{arith}
-use mathlib.Core.Path.{◌≡◌, sym, ap, ◌∙◌}
-use mathlib.Core.List.{List, [], ◌∷◌, ◌++◌}
-use lib.ListN.{length, set, drop, length-drop}
-use lib.Seq.{sets, sets-eq}
+use Rattle.std.proofs.Common.{ℕ, suc, ◌+◌, ◌≤◌, zero-add, add-one, arith, ◌≡◌, sym, ap, ◌∙◌, List, [], ◌∷◌, ◌++◌, length, set, drop, length-drop}
+use Rattle.std.proofs.lemmas.List.Edits.{sets, sets-eq}
 use Rattle.felica_format.specs.Basic.{taken, refuse, bind}
 use Rattle.felica_format.specs.Command.{Formed}
 use Rattle.felica_format.specs.Read.{read_element, read_each}

@@ -1,7 +1,6 @@
 -- The rules of the list reader, from its definition.
 -- Assumes nothing.
-use Rattle.std.proofs.Common.{ℕ, ◌≤◌, List, arith, ◌≡◌, refl, sym, ap, ◌∙◌, ◌⊎◌, inl, inr, Bool, true, false, Option, Some, Err}
-use mathlib.Core.Logic.{⊎_elim}
+use Rattle.std.proofs.Common.{ℕ, ◌≤◌, List, arith, ◌≡◌, refl, sym, ap, ◌∙◌, ◌⊎◌, inl, inr, Bool, true, false, Option, Some, Err, ⊎_elim}
 use Rattle.felica_format.specs.Command.{Command}
 use Rattle.felica_format.specs.Read.{Answer as Reading, gives, refused, read_frame, read_payload, read_secure}
 use Rattle.felica_format.proofs.Steps.{not_given}

@@ -1,7 +1,6 @@
 -- `felica_parse_frame` meets its contract: what is told of the parser's result is told of what the bytes give.
 -- Assumes nothing.
-use mathlib.Core.Path.{◌∙◌}
-use lib.ListN.{drop}
+use Rattle.std.proofs.Common.{◌∙◌, drop}
 use Rattle.felica_format.specs.Read.{read_frame}
 use Rattle.felica_c.specs.Boundary.{lent}
 use Rattle.felica_c.proofs.Laws.{result_tells}

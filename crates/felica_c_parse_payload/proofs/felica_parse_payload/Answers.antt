@@ -1,6 +1,6 @@
 -- `felica_parse_payload` meets its contract: what is told of the parser's result is told of what the bytes give.
 -- Assumes nothing.
-use mathlib.Core.Path.{◌∙◌}
+use Rattle.std.proofs.Common.{◌∙◌}
 use Rattle.felica_format.specs.Read.{read_payload}
 use Rattle.felica_c.specs.Boundary.{lent}
 use Rattle.felica_c.proofs.Laws.{result_tells}

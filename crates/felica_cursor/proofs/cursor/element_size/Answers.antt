@@ -1,6 +1,6 @@
 -- `element_size` meets its contract.
 -- Assumes nothing.
-use native.Mathlib.Omega.{arith}
+use Rattle.std.proofs.Common.{arith}
 use Rattle.felica_cursor.proofs.Few.{size_by_bit}
 use Rattle.felica_cursor.proofs.cursor.element_size.Goals as goal
 

@@ -1,7 +1,7 @@
 -- `felica_format::constants::bounds_at` meets its contract: the table is the plain layouts' bounds in order, which antt computes.
 -- Assumes nothing.
-use mathlib.Core.Path.{sym, ap}
-use lib.ListN.{get_or-map, get_or-eq_default}
+use Rattle.std.proofs.Common.{sym, ap}
+use Rattle.std.proofs.Math.ListN.{get_or-map, get_or-eq_default}
 use Rattle.felica_format.specs.Layout.{plain_rows, bounds_at, bounds_of, ends, bare, ◌is◌}
 use Rattle.felica_format.proofs.constants.bounds_at.Goals as goal
 

@@ -1,7 +1,6 @@
 -- `felica_format::constants::is_polling_time_slot` meets its contract: the formula, test by test.
 -- Assumes nothing.
-use native.Mathlib.Omega.{arith}
-use borrow.Author.Tests.{lt-ltb, le-ltb}
+use Rattle.std.proofs.Common.{arith, lt-ltb, le-ltb}
 use Rattle.felica_format.specs.Basic.{◌and◌}
 use Rattle.felica_format.specs.Read.{is_time_slots}
 use Rattle.felica_format.proofs.constants.is_polling_time_slot.Goals as goal

@@ -1,9 +1,6 @@
 -- `felica_named::notes::field_at` meets its contract.
 -- Assumes nothing.
-use native.Mathlib.Omega.{arith}
-use Prim.Native.Nat.{◌+◌, ◌-◌}
-use mathlib.Core.Path.{◌≡◌, ap, ◌∙◌}
-use lib.ListN.{length, take, drop, length-drop}
+use Rattle.std.proofs.Common.{arith, ◌+◌, ◌-◌, ◌≡◌, ap, ◌∙◌, length, take, drop, length-drop}
 use Rattle.felica_text.specs.Text.{before}
 use Rattle.felica_put.proofs.Laws.{take_rest}
 use Rattle.felica_calls.proofs.Reading.{before_within}
