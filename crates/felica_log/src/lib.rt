@@ -16,7 +16,7 @@ pub const LINE_ROOM: usize = 128;
 
 // Why a step stops: nothing of the piece is left; 1,000,000 records have been read, and a byte follows; the record is cut off; the buffer has less room than
 // `LINE_ROOM`; the totals have no room for a record of 255 blocks.
-#[derive(Clone, Copy, PartialEq, Eq)]
+#[derive(Clone, Copy, Debug, PartialEq, Eq)]
 pub enum Stop {
     AtEnd,
     AtLimit,
@@ -30,6 +30,6 @@ impl Stop {
     pub fn lacks_room(self) -> bool
         ensures { result ≡ lacks_room self }
     {
-        matches!(self, Self::NoRoom)
+        self == Self::NoRoom
     }
 }

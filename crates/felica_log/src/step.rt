@@ -10,7 +10,7 @@ use felica_put::Output;
 use felica_totals::Totals;
 
 // How far a step came: the bytes of the piece that are listed, and why it stopped.
-#[derive(Clone, Copy)]
+#[derive(Clone, Copy, Debug, PartialEq, Eq)]
 pub struct Progress {
     pub used: usize,
     pub stop: Stop,

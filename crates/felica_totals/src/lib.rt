@@ -4,7 +4,7 @@
 ghost use Rattle.std.specs.Prelude.{◌≡◌};
 ghost use Rattle.felica_totals.specs.Count.{no_totals, has_room, counted_record};
 
-#[derive(Clone, Copy, Default)]
+#[derive(Clone, Copy, Debug, Default, PartialEq, Eq)]
 pub struct Totals {
     pub records: usize,
     pub accepted: usize,
@@ -14,6 +14,12 @@ pub struct Totals {
 }
 
 impl Totals {
+    pub fn new() -> Totals
+        ensures { result ≡ no_totals }
+    {
+        Totals::default()
+    }
+
     // Whether one more record of so many blocks can be counted, accepted or refused, without a sum past its width.
     pub fn has_room(self, blocks: usize) -> bool
         ensures { result ≡ has_room self blocks }
@@ -25,7 +31,7 @@ impl Totals {
     }
 
     // After one more record, of so many blocks where it was accepted; without room for it, as they were.
-    fn counted(self, accepted: Option<usize>) -> Totals
+    pub fn counted(self, accepted: Option<usize>) -> Totals
         ensures { result ≡ counted_record self accepted }
     {
         if !self.has_room(accepted.unwrap_or(0)) {

@@ -18,7 +18,7 @@ use felica_totals::Totals;
 use std::io::{self, Read, Write};
 
 // What keeps a listing from being complete.
-#[derive(Clone, Copy)]
+#[derive(Clone, Copy, Debug, PartialEq, Eq)]
 enum Failure {
     Read,
     Write,
@@ -87,7 +87,7 @@ fn read_piece<R: Read>(reader: &mut R, input: &mut [u8], held: usize) -> io::Res
 }
 
 // Reads the log and lists its records, and answers how many bytes are left behind them. A proved loop has to end, and nothing says that the input does: the turns are
-// counted.
+// counted. How many bytes are held stands beside the lent array, since this loop is proved by that number.
 fn feed<R: Read, W: Write>(
     reader: &mut R,
     writer: &mut W,
@@ -150,34 +150,34 @@ fn list<R: Read, W: Write>(
     finish(writer, &input[..held], out, totals).map_err(|_| Failure::Write)
 }
 
-// Lists the log, and answers whether the listing is complete. One without TOTAL is not: then the error output says why.
+// Lists the log; one without TOTAL is not complete, and then the error output says why.
 fn run<R: Read, W: Write, E: Write>(
     reader: &mut R,
     writer: &mut W,
     errors: &mut E,
     input: &mut [u8],
     out: &mut [u8],
-) -> bool
+) -> Result<(), Failure>
     requires { (256 ≤ length input.old) × (line_room ≤ length out.old) }
-    ensures { result ≡ true → TakesListing (R.remaining reader.old) (W.contents writer.old) (W.contents writer.new) }
+    ensures { OnOk result (TakesListing (R.remaining reader.old) (W.contents writer.old) (W.contents writer.new)) }
 {
     let mut out = Output::new(out);
-    let Err(failure) = list(reader, writer, input, &mut out) else {
-        return true;
-    };
-    let _ = match failure {
-        Failure::Read => {
+    let listed = list(reader, writer, input, &mut out);
+    let _ = match listed {
+        Ok(()) => Ok(()),
+        Err(Failure::Read) => {
             let _ = writer.write_all(out.filled());
             errors.write_all(b"list_log: the log cannot be read\n")
         }
-        Failure::Write => errors.write_all(b"list_log: the listing cannot be written\n"),
+        Err(Failure::Write) => errors.write_all(b"list_log: the listing cannot be written\n"),
     };
-    false
+    listed
 }
 
 fn main(rt: HostRuntime) {
     let mut input = [0u8; 65536];
     let mut out = [0u8; 65536];
+    // What failed stands on the error output.
     let _ = run(
         &mut rt.stdin(),
         &mut rt.stdout(),

@@ -9,6 +9,6 @@ returns-then-end-input c = move_inside _ _ _ c.if-end-input.true c.copy_within.e
 
 pub returns-else-from-end : goal.returns-else-from-end
 returns-else-from-end c = elim c.else-from-end.branch [
-  else-from-end-via-then-from-end+else-end-input w ↦ move_short _ _ _ w.if-end-input.false
+  | else-from-end-via-then-from-end+else-end-input w ↦ move_short _ _ _ w.if-end-input.false
   | else-from-end-via-else-from-end w ↦ move_none _ _ _ w.if-from-end.false
-  ]
+]
