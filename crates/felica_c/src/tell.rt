@@ -19,8 +19,11 @@ pub fn tell(
 {
     match parsed {
         Ok(parsed) => {
-            *idm = parsed.idm;
-            *challenge = parsed.challenge;
+            // By variables: the check knows no array that is copied from field to field.
+            let its_idm = parsed.idm;
+            let its_challenge = parsed.challenge;
+            *idm = its_idm;
+            *challenge = its_challenge;
             FelicaAnswer {
                 refusal: 0,
                 code: put_fields(parsed.command, fields, parts),

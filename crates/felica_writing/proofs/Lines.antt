@@ -1,6 +1,6 @@
 -- The command of a call of the writer, by what was put into each buffer.
 -- Assumes nothing.
-use Rattle.std.proofs.Common.{ℕ, zero, suc, ◌≤◌, ◌≡◌, refl, sym, ap, ◌∙◌, List, ◌∷◌, length, take, map, not-suc-le-zero, le_of_suc-le-suc}
+use Rattle.std.proofs.Common.{ℕ, zero, suc, ◌≤◌, ◌≡◌, refl, sym, ap, ◌∙◌, List, ◌∷◌, length, take, map, arith}
 use Rattle.std.proofs.lemmas.List.{length-replicate, map-id}
 use Rattle.felica_format.specs.Basic.{zeros}
 use Rattle.felica_put.specs.Put.{buffer, put}
