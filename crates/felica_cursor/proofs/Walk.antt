@@ -254,12 +254,13 @@ module _ (from : Cursor) {code : ℕ} {l : Layout} (its : HasLayout code l) wher
                     rw (its.is, read, said) (
                       rw (f_is, g_is, list_is, p_is, q_is, h.counted_long) refl,
                       rw (its.is, numbers) (places_eq
-                        (c.spot ∙ rw n₂ refl)
-                        (d.spot ∙ rw n₃ refl)
-                        (h.spot ∙ rw n₄ refl)
-                        (k.spot ∙ rw (n₅, s₄, n₄) refl)
-                        (m.spot ∙ rw (n₆, s₄, n₄) refl)),
-                      canonical)
+                          (c.spot ∙ rw n₂ refl)
+                          (d.spot ∙ rw n₃ refl)
+                          (h.spot ∙ rw n₄ refl)
+                          (k.spot ∙ rw (n₅, s₄, n₄) refl)
+                          (m.spot ∙ rw (n₆, s₄, n₄) refl)),
+                      canonical,
+                    )
 
 -- the same for a layout of fixed bytes alone, behind an IDm or none
 module _ (from : Cursor) {code : ℕ} {has : Bool} {e : Ending} {b : Behind} (its : HasLayout code (layout has no_selector no_codes no_codes false false e b)) where

@@ -30,7 +30,11 @@ pub fn put_frame_line(out: &mut Output<u8>, ordinal: usize, frame: &[u8]) -> Opt
 }
 
 // What the parser gave for the payload, without ordinal and line feed.
-fn put_result(out: &mut Output<u8>, payload: &[u8], parsed: Result<Parsed, Refusal>) -> Option<usize>
+fn put_result(
+    out: &mut Output<u8>,
+    payload: &[u8],
+    parsed: Result<Parsed, Refusal>,
+) -> Option<usize>
     requires { Inside payload.now (places_of parsed) }
     ensures text { Puts out.old out.new (frame_text (meaning payload.now parsed)) }
     ensures blocks { result ≡ accepted_blocks (meaning payload.now parsed) }
@@ -38,7 +42,13 @@ fn put_result(out: &mut Output<u8>, payload: &[u8], parsed: Result<Parsed, Refus
     match parsed {
         Ok(parsed) => {
             let lists = parsed.command.lists();
-            put_accepted(out, parsed.command.command_code(), payload, lists, parsed.long);
+            put_accepted(
+                out,
+                parsed.command.command_code(),
+                payload,
+                lists,
+                parsed.long,
+            );
             Some(lists.block_list.count)
         }
         Err(refusal) => {

@@ -30,8 +30,9 @@ pub fn write(command: Handed<'_>, out: &mut [u8]) -> Result<usize, Refusal>
         return Err(Refusal::of_command(Reason::Unwritable, code));
     }
     let size = body_size(row.layout, command);
-    room_for(row.class, size, command.package.len(), out.len())
-        .map_err(|reason| Refusal::of_command(reason, code))?;
+    room_for(row.class, size, command.package.len(), out.len()).map_err(
+        |reason| Refusal::of_command(reason, code),
+    )?;
     let mut output = Output::new(out);
     put_head(&mut output, row.class, code, size);
     put_body(&mut output, row.layout, command);

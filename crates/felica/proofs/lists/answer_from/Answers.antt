@@ -16,5 +16,5 @@ returns c =
     let kept = buffers_of c.list-parsed.new.buffers (search rules) (search rules) (search rules) (search rules) (search rules) in
     puts_same c.put_listed.ensures
     (ap (listed_text c.list-parsed.result) kept
-     ∙ listed_line (payload_in a.source a.bytes.now) (buffers a.first.now a.second.now a.numbers.now a.places.now a.modes.now) c.list-parsed.result
-     (reading_of a.source a.bytes.now) _ account.0 account.3)
+    ∙ listed_line (payload_in a.source a.bytes.now) (buffers a.first.now a.second.now a.numbers.now a.places.now a.modes.now) c.list-parsed.result
+    (reading_of a.source a.bytes.now) _ account.0 account.3)
