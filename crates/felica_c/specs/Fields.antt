@@ -9,7 +9,7 @@ use Rattle.felica_command.specs.declared.command.Refusal.{Refusal}
 use Rattle.felica_c.specs.declared.answer.FelicaWritten.{FelicaWritten}
 use Rattle.felica_c.specs.Boundary.{Lent, lent, fixed_fields, parts_of, Told, told, answer, code_or_zero}
 
--- a command as numbers: its code, and what `fields` and `parts` hold of it
+-- the code, and the two lists that `put_fields` writes
 pub record Put : Type 0 where
   pub code : ℕ
   pub fields : List ℕ

@@ -4,7 +4,7 @@ ghost use Rattle.felica_c.specs.Boundary.{lent, told};
 ghost use Rattle.felica_c.specs.Fields.{tell as tell_parsed, unwritten_by};
 
 use crate::answer::{FelicaAnswer, FelicaWritten};
-use crate::fields::{numbers_of, parts_of};
+use crate::fields::put_fields;
 use felica_command::command::{Parsed, Refusal};
 
 // Where the result is a command, all of `idm`, `challenge`, `fields` and `parts` are written, zero where the command lacks them. A refusal changes no byte.
@@ -24,11 +24,9 @@ pub fn tell(
             let its_challenge = parsed.challenge;
             *idm = its_idm;
             *challenge = its_challenge;
-            *fields = numbers_of(parsed.command);
-            *parts = parts_of(parsed.command);
             FelicaAnswer {
                 refusal: 0,
-                code: parsed.command.command_code(),
+                code: put_fields(parsed.command, fields, parts),
                 long_count: u16::from(parsed.long),
             }
         }
