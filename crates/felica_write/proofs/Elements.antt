@@ -1,18 +1,15 @@
 -- The elements of three lists, entry by entry.
 -- Assumes nothing.
 use Rattle.std.proofs.Common.{ℕ, zero, suc, ◌+◌, ◌*◌, ◌≤◌, ◌<◌, ◌≡◌, refl, sym, ap, ◌∙◌, Bool, true, false, cond, List, [], ◌∷◌, ◌++◌, arith}
-use Rattle.std.proofs.Common.{ltb, length, get_or, take, drop, append_assoc, append-nil, length-append, add-one}
+use Rattle.std.proofs.Common.{ltb, length, get_or, drop, length-append}
+use Rattle.std.specs.List.{flat_map}
 use Rattle.std.proofs.Math.Seq.{get_or-drop}
 use Rattle.std.proofs.lemmas.Bool.{ltb-true, lt-ltb, le-ltb}
-use Rattle.std.proofs.lemmas.List.{take_all}
 use Rattle.std.proofs.lemmas.List.Sums.{sum_by-cons}
-use Rattle.felica_format.specs.Basic.{◌and◌, all_below}
+use Rattle.felica_format.specs.Basic.{◌and◌, all_below, word_bytes}
 use Rattle.felica_format.specs.Command.{Element, zip_elements}
-use Rattle.felica_format.specs.Write.{short_bytes, long_bytes, element_bytes, each_bytes, elements_bytes}
+use Rattle.felica_format.specs.Write.{words_bytes, short_bytes, long_bytes, element_bytes, each_bytes, elements_bytes}
 use Rattle.felica_format.proofs.Tests.{and_left, and_right}
-use Rattle.felica_put.specs.Output.{Puts}
-use Rattle.felica_put.specs.declared.Output.{Output}
-use Rattle.felica_put.proofs.Laws.{puts_then}
 use Rattle.felica_writable.proofs.Laws.{zip_length}
 use Rattle.felica_write.specs.Size.{short_size}
 use Rattle.felica_write.specs.Body.{element}
@@ -71,17 +68,13 @@ pub counted : (there : Bool) (ns ps ms : List ℕ) → there ≡ true
 unfolding elements_bytes
 counted there ns ps ms e = rw (e, zip_length ns ps ms)
 
--- A turn of a loop that puts f of a list, entry by entry: g is what an entry puts.
-module _ {A B : Type 0} (f : List A → List B) (g : A → List B) (none : f [] ≡ []) (cons : (x : A) (xs : List A) → f (x ∷ xs) ≡ g x ++ f xs) where
-  one_more : (s : List A) (i : ℕ) (d : A) → i < length s → f (take (suc i) s) ≡ f (take i s) ++ g (get_or s i d)
-  one_more [] i d h = absurd (omega arith)
-  one_more (x ∷ xs) zero d h = cons x [] ∙ rw (none, append-nil (g x)) refl
-  one_more (x ∷ xs) (suc i) d h =
-      cons x (take (suc i) xs) ∙ ap (λ t. g x ++ t) (one_more xs i d (omega arith)) ∙ sym (append_assoc (g x) (f (take i xs)) (g (get_or xs i d)))
-      ∙ ap (λ t. t ++ g (get_or xs i d)) (sym (cons x (take i xs)))
+-- what is put entry by entry, as the loops put it
+pub words_flat : (ns : List ℕ) → words_bytes ns ≡ flat_map word_bytes ns
+unfolding words_bytes
+words_flat [] = refl
+words_flat (n ∷ ns) = ap (λ t. word_bytes n ++ t) (words_flat ns)
 
-  pub puts_more : (s : List A) (i : ℕ) (d : A) {a b c : Output B} → i < length s → Puts a b (f (take i s)) → Puts b c (g (get_or s i d)) → Puts a c (f (take (i + 1) s))
-  puts_more s i d h so_far turn = rw (add-one, one_more s i d h) (puts_then so_far turn)
-
-pub puts_whole : {A B : Type 0} (f : List A → List B) (s : List A) (n : ℕ) {a b : Output B} → length s ≤ n → Puts a b (f (take n s)) → Puts a b (f s)
-puts_whole f s n h so_far = rw (sym (take_all n s h)) so_far
+pub each_flat : (es : List Element) → each_bytes [] es ≡ flat_map (element_bytes false) es
+unfolding each_bytes
+each_flat [] = refl
+each_flat (e ∷ es) = ap (λ t. element_bytes false e ++ t) (each_flat es)

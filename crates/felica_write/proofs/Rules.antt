@@ -1,6 +1,6 @@
 -- The rules of the writer and of reading back, from the contracts of the writer and the parser and the theorems of felica_format.
 -- Assumes nothing.
-use Rattle.std.proofs.Common.{ℕ, ◌≤◌, ◌<◌, ◌≡◌, refl, sym, ap, ◌∙◌, subst, ◌⊎◌, inl, inr, ◌↔◌, Bool, true, false, List, [], ◌++◌, length, take, drop, arith, Ok, Err}
+use Rattle.std.proofs.Common.{ℕ, ◌≤◌, ◌<◌, ◌≡◌, refl, sym, ap, ◌∙◌, subst, ◌⊎◌, inl, inr, ◌↔◌, Bool, true, false, List, [], ◌++◌, length, take, drop, Ok, Err}
 use Rattle.std.specs.Prelude.{Option, None, Some}
 use Rattle.std.proofs.Math.Seq.{take-append_seam, drop-append_seam}
 use Rattle.std.proofs.Math.Dec.{ltb}
@@ -22,7 +22,6 @@ use Rattle.felica_format.specs.declared.error.Reason.{Reason}
 use Rattle.felica_format.specs.declared.error.Reason.TheVariants.{Unwritable}
 use Rattle.felica_format.proofs.Reasons.{one_reason}
 use Rattle.felica_command.specs.Meaning.{ParserResult, long_of, refusal as refused_for}
-use Rattle.felica_command.specs.declared.command.Refusal.{Refusal}
 use Rattle.felica_write.specs.Writing.{wrote, refused, Written, meaning, refusal, outcome, stored, store, writing}
 use Rattle.felica_write.specs.Rules.{WriterAccount, FrameParsed, PayloadParsed, FrameIs, PayloadIs, OneWriterAccount, RefusedUntouched}
 use Rattle.felica_write.specs.Rules.{TwentyOneExactly, TwentyTwoExactly, BehindKept, WrittenFrameRead, WrittenPayloadRead, ShortestFrame}

@@ -1,8 +1,7 @@
 -- The command of a call of the writer, by what was put into each buffer.
 -- Assumes nothing.
-use Rattle.std.proofs.Common.{ℕ, zero, suc, ◌≤◌, ◌≡◌, refl, sym, ap, ◌∙◌, List, ◌∷◌, length, take, map, arith}
-use Rattle.std.proofs.lemmas.List.{length-replicate, map-id}
-use Rattle.felica_format.specs.Basic.{zeros}
+use Rattle.std.proofs.Common.{ℕ, ◌≡◌, ap, ◌∙◌, List, take, map}
+use Rattle.std.proofs.lemmas.List.{map-id}
 use Rattle.felica_put.specs.Put.{buffer, put}
 use Rattle.felica_put.specs.Output.{Puts, held}
 use Rattle.felica_put.specs.declared.Output.{Output}
@@ -13,14 +12,6 @@ use Rattle.felica_named.specs.Notes.{Starts}
 use Rattle.felica_named.specs.Values.{value_named, words_in, small_in}
 use Rattle.felica_named.specs.Handed.{fixed_named, front_of, front_with, command_over}
 use Rattle.felica_named.specs.declared.names.Field.TheVariants.{First, Second, Numbers, Places, Modes, Data, Package}
-
-pub take_zeros : (n m : ℕ) → n ≤ m → take n (zeros m) ≡ zeros n
-take_zeros zero m h = refl
-take_zeros (suc n) zero h = absurd (omega arith)
-take_zeros (suc n) (suc m) h = ap (λ l. 0 ∷ l) (take_zeros n m (omega arith))
-
-pub zeros_taken : (n m : ℕ) → n ≤ m → n ≡ length (take n (zeros m))
-zeros_taken n m h = sym (ap length (take_zeros n m h) ∙ length-replicate n 0)
 
 -- what a list put into an empty output leaves at its front
 pub front_is : {a b : Output ℕ} (l list : List ℕ) {f : List ℕ} → held a ≡ buffer l 0 → Puts a b list → f ≡ take b.len b.room.now → f ≡ front_with l list

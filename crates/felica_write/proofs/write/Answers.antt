@@ -1,6 +1,6 @@
 -- `felica_write::write` meets its contract, case by case.
 -- Assumes nothing.
-use Rattle.std.proofs.Common.{ℕ, ◌≡◌, sym, ◌∙◌, false, length, Ok, Err, is_ok, arith, rules}
+use Rattle.std.proofs.Common.{◌≡◌, sym, ◌∙◌, false, length, Ok, Err, is_ok, arith, rules}
 use Rattle.std.proofs.lemmas.Grind.{common_steps}
 use Rattle.felica_format.specs.declared.error.Reason.{Reason}
 use Rattle.felica_layout.specs.Layout.{layout_meant}
