@@ -1,10 +1,11 @@
 -- Laws of the steps on the bytes that are left at a position.
 -- Assumes nothing.
-use Rattle.std.proofs.Common.{◌≡◌, refl, sym, ap, ◌∙◌, Bool, true, false, not, List, [], ◌∷◌, ℕ, zero, suc, ◌+◌, ◌<◌, ◌≤◌, add-one, add-zero, add-suc, arith, ◌&&◌, ltb, leb, eqb, length, get_or, take, drop, drop-cons, drop-drop, get_or-drop, leb-true, leb-false, lt-ltb, le-ltb, Result, Ok, Err}
+use Rattle.std.proofs.Common.{◌≡◌, refl, sym, ap, ◌∙◌, Bool, true, false, not, List, [], ◌∷◌, ℕ, zero, suc, ◌+◌, ◌<◌, ◌≤◌, add-one, add-zero, add-suc, arith, ◌&&◌, ltb, leb, eqb, length, get_or, take, drop, drop-cons, drop-drop, get_or-drop, leb-true, leb-false, lt-ltb, le-ltb, Result, Ok, Err, IsErrAnd}
 use Rattle.std.specs.List.{list_all}
+use Rattle.std.proofs.lemmas.Result.{err_from_is_err_and}
 use Rattle.felica_format.specs.Basic.{Step, taken, refuse, refuse_if, zeros, word_of, word_at, ◌and◌}
-use Rattle.felica_format.specs.Command.{end_fields, no_fields}
-use Rattle.felica_format.specs.Layout.{Ending, bare, polling, nothing}
+use Rattle.felica_format.specs.Command.{EndFields, end_fields, no_fields}
+use Rattle.felica_format.specs.Layout.{Ending, bare, polling, nothing, a_package}
 use Rattle.felica_format.specs.Read.{words_of, read_long, read_short, read_ending, read_values, size_of, zero_at, is_time_slots}
 use Rattle.felica_format.proofs.Steps.{none_taken}
 use Rattle.felica_command.specs.Places.{element_size, elements_size}
@@ -84,6 +85,11 @@ pub no_words : (n : ℕ) (l : List ℕ) → n ≡ 0 → words_of n l ≡ []
 unfolding words_of
 no_words n l e = rw e
 
+-- a step that hands on a refusal
+pub refused : {T A : Type 0} {meant : T → A} {step : Step A} {P : T → Cursor → Type 0} (why : Reason) (r : Result (T × Cursor) Reason)
+    → IsErrAnd r (λ y. y ≡ why) → step ≡ refuse (number_of why) → Takes meant step P r
+refused why r e read = let p = err_from_is_err_and r e in rw (p.1, p.2) (record { read = read; placed = tt })
+
 -- the fixed bytes that end a layout, once they are measured
 refused_both : {A B : Type 0} (a b : Bool) (x : Step A) (y : Step B) (v : A) (l : List ℕ) (g : ℕ) → x ≡ taken v l
     → refuse_if a 7 (refuse_if b 8 x) ≡ refuse g → refuse_if a 7 (refuse_if b 8 y) ≡ refuse g
@@ -108,6 +114,25 @@ pub ending_taken : (e : Ending) (l : List ℕ) (v : ℕ) (r : List ℕ) → meas
 unfolding measured read_ending
 ending_taken e l v r h =
     (taken_both (ltb (length l) (size_of e)) (ltb (size_of e) (length l)) (taken (size_of e) l) (read_values e l) v r h).2
+
+-- measured bytes may be read as if a package stood behind them
+pub ending_alone : (e : Ending) (l : List ℕ) (v : ℕ) (r : List ℕ) → measured (size_of e) l ≡ taken v r → read_ending e nothing l ≡ read_ending e a_package l
+unfolding measured read_ending refuse_if
+ending_alone e l v r h =
+    let (many, few, whole) = taken_both (ltb (length l) (size_of e)) (ltb (size_of e) (length l)) (taken (size_of e) l) (read_values e l) v r h in
+    whole ∙ rw many refl
+
+-- a step whose bytes are not measured
+pub not_measured : {T : Type 0} {meant : T → EndFields} {P : T → Cursor → Type 0} (e : Ending) (c : Cursor) (why : Reason) (r : Result (T × Cursor) Reason)
+    → Takes (as_size (size_of e)) (measured (size_of e) (rest c)) (Measured c (size_of e)) (Err why) → IsErrAnd r (λ y. y ≡ why)
+    → Takes meant (read_ending e nothing (rest c)) P r
+not_measured e c why r t is = refused why r is (ending_refused e (rest c) _ t.read)
+
+-- one that reads measured bytes as if a package stood behind them
+pub read_alone : {T : Type 0} {meant : T → EndFields} {P : T → Cursor → Type 0} (e : Ending) (c : Cursor) (v : Unit {0} × Cursor) (r : Result (T × Cursor) Reason)
+    → Takes (as_size (size_of e)) (measured (size_of e) (rest c)) (Measured c (size_of e)) (Ok v) → Takes meant (read_ending e a_package (rest c)) P r
+    → Takes meant (read_ending e nothing (rest c)) P r
+read_alone e c v r m t = record { read = ending_alone e (rest c) _ _ m.read ∙ t.read; placed = t.placed }
 
 measured_rest : (n : ℕ) (l : List ℕ) (v : ℕ) (r : List ℕ) → measured n l ≡ taken v r → r ≡ l
 unfolding measured

@@ -1,17 +1,31 @@
 -- The parts that the list steps name: what stands there, and where it stands.
 -- Assumes nothing.
-use Rattle.std.specs.Prelude.{◌≡◌, ℕ, ◌+◌, ◌*◌, ◌<◌, List, length, ltb}
+use Rattle.std.specs.Prelude.{◌≡◌, ℕ, ◌+◌, ◌*◌, ◌<◌, true, List, length, ltb}
 use Rattle.felica_format.specs.Basic.{Step, taken, refuse_if}
 use Rattle.felica_format.specs.Command.{Formed, long_count}
-use Rattle.felica_format.specs.Read.{formed}
+use Rattle.felica_format.specs.Layout.{◌to◌}
+use Rattle.felica_format.specs.Read.{formed, read_count, read_codes, read_elements}
+use Rattle.felica_format.specs.Reasons.{number_of}
+use Rattle.felica_format.specs.declared.constants.Bounds.{Bounds}
 use Rattle.felica_command.specs.declared.command.Part.{Part}
 use Rattle.felica_command.specs.Meaning.{part, formed_at}
 use Rattle.felica_command.specs.Places.{elements_size}
 use Rattle.felica_command.specs.Types.{element_is}
 use Rattle.felica_cursor.specs.Taken.{rest, moved}
+use Rattle.felica_cursor.specs.declared.cursor.CountReasons.{CountReasons}
 use Rattle.felica_cursor.specs.declared.cursor.Cursor.{Cursor}
 use Rattle.felica_cursor.specs.declared.cursor.FormedElement.{FormedElement}
 use Rattle.felica_cursor.specs.declared.cursor.Blocks.{Blocks}
+
+-- a count within its bounds, and the codes or the elements behind one, refused for the reasons that a count has
+abbrev pub read_count_for : CountReasons → Bounds → List ℕ → Step ℕ
+read_count_for why b = read_count (number_of why.missing) (number_of why.out_of_range) b.least b.greatest
+
+abbrev pub read_codes_for : CountReasons → Bounds → List ℕ → Step (List ℕ)
+read_codes_for why b = read_codes (number_of why.missing) (number_of why.out_of_range) (b.least to b.greatest)
+
+abbrev pub read_elements_for : CountReasons → List ℕ → Step (List Formed)
+read_elements_for why = read_elements (number_of why.missing) (number_of why.out_of_range) true
 
 -- codes, two bytes each, from a cursor on
 abbrev pub CodesFrom : Cursor → Part → Cursor → Type 0

@@ -2,14 +2,14 @@
 // A position may be any number: from the payload's end on, nothing is left.
 ghost use Rattle.std.specs.Prelude.{◌≡◌, true, length, drop, get_or, ◌+◌, ◌-◌, ◌*◌, ◌≤◌, ◌<◌};
 ghost use Rattle.felica_format.specs.Basic.{refuse, word_of};
-ghost use Rattle.felica_format.specs.Layout.{◌to◌, type_byte, any_byte, bounds_at};
+ghost use Rattle.felica_format.specs.Layout.{◌to◌, type_byte, any_byte, bounds_of, bounds_at};
 ghost use Rattle.felica_format.specs.Reasons.{number_of};
-ghost use Rattle.felica_format.specs.Read.{element_of, read_idm, read_selector, read_count, read_words, read_codes, read_element, read_each, read_elements, read_data};
+ghost use Rattle.felica_format.specs.Read.{element_of, read_idm, read_selector, read_words, read_element, read_each, read_data};
 ghost use Rattle.felica_command.specs.Meaning.{codes_at, bytes_at};
 ghost use Rattle.felica_command.specs.Places.{element_size};
 ghost use Rattle.felica_command.specs.Types.{element_is, node_property_byte};
 ghost use Rattle.felica_cursor.specs.Taken.{rest, moved, itself, as_step, Takes, To};
-ghost use Rattle.felica_cursor.specs.Steps.{formed_is, elements_in, CodesFrom, ElementsFrom, DataFrom};
+ghost use Rattle.felica_cursor.specs.Steps.{read_count_for, read_codes_for, read_elements_for, formed_is, elements_in, CodesFrom, ElementsFrom, DataFrom};
 
 use felica_command::command::Part;
 use felica_command::types::{BlockListElement, BlockNumber, NodePropertyType};
@@ -20,7 +20,7 @@ use felica_format::error::Reason;
 // A list of so many elements is walked by `take_elements`, a shorter one by `take_few`.
 const MANY: u8 = 8;
 
-#[derive(Clone, Copy)]
+#[derive(Clone, Copy, Debug, PartialEq, Eq)]
 pub struct Cursor<'a> {
     pub payload: &'a [u8],
     pub at: usize,
@@ -49,7 +49,7 @@ impl Blocks {
         requires { (start + 2 * count ≤ at) × (at ≤ start + 3 * count) }
         ensures { result ≡ record { list = record { start = start; count = count }; long = at - start - 2 * count } }
     {
-        let count = count as usize;
+        let count = usize::from(count);
         Self {
             list: Part { start, count },
             long: (at - start - 2 * count) as u8,
@@ -140,7 +140,7 @@ impl<'a> Cursor<'a> {
     }
 
     fn take_between(self, bounds: Bounds, reasons: CountReasons) -> Taken<'a, u8>
-        ensures { Takes itself (read_count (number_of reasons.missing) (number_of reasons.out_of_range) bounds.least bounds.greatest (rest self.entry)) (To (moved self.entry 1)) result }
+        ensures { Takes itself (read_count_for reasons bounds (rest self.entry)) (To (moved self.entry 1)) result }
     {
         if self.payload.len() <= self.at {
             return Err(reasons.missing);
@@ -153,15 +153,15 @@ impl<'a> Cursor<'a> {
         Ok((count, Cursor { at, ..self }))
     }
 
-    // The count of a list of codes, within the bounds that a plain code's row has.
+    // The count of a list of codes, within the bounds of a plain code's row. The row comes by number: one table of 25 rows holds the bounds, and a caller may name any row.
     pub fn take_count(self, row: usize, reasons: CountReasons) -> Taken<'a, u8>
-        ensures { Takes itself (read_count (number_of reasons.missing) (number_of reasons.out_of_range) (bounds_at row).least (bounds_at row).greatest (rest self.entry)) (To (moved self.entry 1)) result }
+        ensures { Takes itself (read_count_for reasons (bounds_at row) (rest self.entry)) (To (moved self.entry 1)) result }
     {
         self.take_between(bounds_at(row), reasons)
     }
 
     pub fn take_block_count(self, reasons: CountReasons) -> Taken<'a, u8>
-        ensures { Takes itself (read_count (number_of reasons.missing) (number_of reasons.out_of_range) 1 255 (rest self.entry)) (To (moved self.entry 1)) result }
+        ensures { Takes itself (read_count_for reasons (bounds_of (1 to 255)) (rest self.entry)) (To (moved self.entry 1)) result }
     {
         self.take_between(BLOCK_COUNTS, reasons)
     }
@@ -171,7 +171,7 @@ impl<'a> Cursor<'a> {
         ensures { Takes (codes_at self.entry.payload.now) (read_words count (rest self.entry)) (CodesFrom self.entry) result }
     {
         let start = self.at;
-        let count = count as usize;
+        let count = usize::from(count);
         if self.left() < 2 * count {
             return Err(Reason::CodeListTruncated);
         }
@@ -181,24 +181,10 @@ impl<'a> Cursor<'a> {
 
     // take_u16_list and take_service_code_list
     pub fn take_u16_list(self, row: usize, reasons: CountReasons) -> Taken<'a, Part>
-        ensures { Takes (codes_at self.entry.payload.now) (read_codes (number_of reasons.missing) (number_of reasons.out_of_range) ((bounds_at row).least to (bounds_at row).greatest) (rest self.entry)) (CodesFrom (moved self.entry 1)) result }
+        ensures { Takes (codes_at self.entry.payload.now) (read_codes_for reasons (bounds_at row) (rest self.entry)) (CodesFrom (moved self.entry 1)) result }
     {
         let (count, behind) = self.take_count(row, reasons)?;
         behind.take_u16s(count)
-    }
-
-    // A list of codes whose count is the first of its command.
-    pub fn take_first_codes(self, row: usize) -> Taken<'a, Part>
-        ensures { Takes (codes_at self.entry.payload.now) (read_codes 9 10 ((bounds_at row).least to (bounds_at row).greatest) (rest self.entry)) (CodesFrom (moved self.entry 1)) result }
-    {
-        self.take_u16_list(row, FIRST_COUNT)
-    }
-
-    // One whose count is the second.
-    pub fn take_second_codes(self, row: usize) -> Taken<'a, Part>
-        ensures { Takes (codes_at self.entry.payload.now) (read_codes 11 12 ((bounds_at row).least to (bounds_at row).greatest) (rest self.entry)) (CodesFrom (moved self.entry 1)) result }
-    {
-        self.take_u16_list(row, SECOND_COUNT)
     }
 
     // Bit 7 set: one byte of block number follows. Bit 7 clear: two bytes. The answer tells which it was.
@@ -286,27 +272,13 @@ impl<'a> Cursor<'a> {
 
     // take_block_list, with the count in front of it
     pub fn take_block_list(self, reasons: CountReasons) -> Taken<'a, Blocks>
-        ensures { Takes (elements_in self.entry.payload.now) (read_elements (number_of reasons.missing) (number_of reasons.out_of_range) true (rest self.entry)) (ElementsFrom (moved self.entry 1)) result }
+        ensures { Takes (elements_in self.entry.payload.now) (read_elements_for reasons (rest self.entry)) (ElementsFrom (moved self.entry 1)) result }
     {
         let (count, behind) = self.take_block_count(reasons)?;
         if count < MANY {
             return behind.take_few(count);
         }
         behind.take_elements(count)
-    }
-
-    // The blocks of a secure command: their count is the first.
-    pub fn take_first_blocks(self) -> Taken<'a, Blocks>
-        ensures { Takes (elements_in self.entry.payload.now) (read_elements 9 10 true (rest self.entry)) (ElementsFrom (moved self.entry 1)) result }
-    {
-        self.take_block_list(FIRST_COUNT)
-    }
-
-    // Blocks behind a list of codes.
-    pub fn take_second_blocks(self) -> Taken<'a, Blocks>
-        ensures { Takes (elements_in self.entry.payload.now) (read_elements 11 12 true (rest self.entry)) (ElementsFrom (moved self.entry 1)) result }
-    {
-        self.take_block_list(SECOND_COUNT)
     }
 
     // 16 bytes for each block.
@@ -332,5 +304,5 @@ impl<'a> Cursor<'a> {
 fn element_size(header: u8) -> usize
     ensures { result ≡ element_size header }
 {
-    3 - (header >> 7) as usize
+    3 - usize::from(header >> 7)
 }

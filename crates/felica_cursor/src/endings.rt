@@ -86,29 +86,25 @@ impl<'a> Cursor<'a> {
         Ok(((), Cursor { at, ..self }))
     }
 
-    // The bytes from here on, with zeros behind them.
-    fn challenge(self, size: usize) -> [u8; 16]
-        requires { (self.at + size ≤ length self.payload.now) × (size ≤ 16) }
-        ensures { result ≡ take size (rest self.entry) ++ zeros (16 - size) }
-    {
-        let mut challenge = [0; 16];
-        challenge[..size].copy_from_slice(&self.payload[self.at..self.at + size]);
-        challenge
-    }
-
+    // Bytes with zeros behind them, and maybe a package behind the bytes.
     fn take_challenge(self, size: usize) -> Taken<'a, [u8; 16]>
         requires { (0 < size) × (size ≤ 16) }
-        ensures { Takes challenge_is (read_ending (bytes size) nothing (rest self.entry)) (To (moved self.entry size)) result }
+        ensures { Takes challenge_is (read_ending (bytes size) a_package (rest self.entry)) (To (moved self.entry size)) result }
     {
-        self.measure(size)?;
+        if self.left() < size {
+            return Err(Reason::TooShort);
+        }
         let at = self.at + size;
-        Ok((self.challenge(size), Cursor { at, ..self }))
+        let mut challenge = [0; 16];
+        challenge[..size].copy_from_slice(&self.payload[self.at..at]);
+        Ok((challenge, Cursor { at, ..self }))
     }
 
-    // The challenge of Authentication1 and 2: eight bytes, with eight zeros behind them.
+    // The challenge of Authentication1 and 2: eight bytes, with eight zeros behind them. The sizes have a name each, since a step for any size would ask that it is 16 at most.
     pub fn take_challenge_8(self) -> Taken<'a, [u8; 16]>
         ensures { Takes challenge_is (read_ending (bytes 8) nothing (rest self.entry)) (To (moved self.entry 8)) result }
     {
+        self.measure(8)?;
         self.take_challenge(8)
     }
 
@@ -116,27 +112,23 @@ impl<'a> Cursor<'a> {
     pub fn take_challenge_16(self) -> Taken<'a, [u8; 16]>
         ensures { Takes challenge_is (read_ending (bytes 16) nothing (rest self.entry)) (To (moved self.entry 16)) result }
     {
-        self.take_challenge(16)
+        self.measure(16)?;
+        self.take_issue()
     }
 
     // Issue id and issue parameter, with a package behind them.
     pub fn take_issue(self) -> Taken<'a, [u8; 16]>
         ensures { Takes challenge_is (read_ending (bytes 16) a_package (rest self.entry)) (To (moved self.entry 16)) result }
     {
-        if self.left() < 16 {
-            return Err(Reason::TooShort);
-        }
-        let at = self.at + 16;
-        Ok((self.challenge(16), Cursor { at, ..self }))
+        self.take_challenge(16)
     }
 
-    // A two-byte number.
+    // A two-byte number, with nothing behind it.
     pub fn take_word(self) -> Taken<'a, u16>
         ensures { Takes word_is (read_ending word nothing (rest self.entry)) (To (moved self.entry 2)) result }
     {
         self.measure(2)?;
-        let at = self.at + 2;
-        Ok((word_at(self.payload, self.at), Cursor { at, ..self }))
+        self.take_packaged_word()
     }
 
     // A two-byte number, with a package behind it.
@@ -209,7 +201,7 @@ impl<'a> Cursor<'a> {
         Ok((parameter, Cursor { at: at + 8, ..self }))
     }
 
-    // The package: all that is left.
+    // The package: all that is left. It is no `take_data`, since nothing is refused and nothing is read behind it.
     pub fn package(self) -> Part
         ensures { result ≡ part self.entry.at (length (rest self.entry)) }
     {

@@ -6,7 +6,7 @@ ghost use Rattle.felica_parse.specs.Codes.{CodeListCode, IdmAloneCode, WordCode,
 use crate::kinds::{code_list_kind, idm_alone_kind, reserved_kind, word_kind};
 use felica_command::command::{FelicaStandardCommand, Parsed};
 use felica_command::types::{ContainerProperty, NodeCode};
-use felica_cursor::cursor::Cursor;
+use felica_cursor::cursor::{Cursor, FIRST_COUNT, SECOND_COUNT};
 use felica_cursor::endings::{Parameter, Polling};
 use felica_format::error::Reason;
 
@@ -45,7 +45,7 @@ pub(crate) fn parse_code_list(start: Cursor, command_code: u8) -> Result<Parsed,
     ensures { BodyRead start.entry command_code result }
 {
     let (idm, behind_idm) = start.take_idm()?;
-    let (codes, behind_codes) = behind_idm.take_first_codes(REQUEST_SERVICE_ROW)?;
+    let (codes, behind_codes) = behind_idm.take_u16_list(REQUEST_SERVICE_ROW, FIRST_COUNT)?;
     behind_codes.take_end()?;
     Ok(Parsed {
         idm,
@@ -70,8 +70,11 @@ pub(crate) fn parse_read_without_encryption(start: Cursor) -> Result<Parsed, Rea
     ensures { BodyRead start.entry 0x06 result }
 {
     let (idm, behind_idm) = start.take_idm()?;
-    let (service_codes, behind_codes) = behind_idm.take_first_codes(READ_WITHOUT_ENCRYPTION_ROW)?;
-    let (blocks, behind_blocks) = behind_codes.take_second_blocks()?;
+    let (service_codes, behind_codes) = behind_idm.take_u16_list(
+        READ_WITHOUT_ENCRYPTION_ROW,
+        FIRST_COUNT,
+    )?;
+    let (blocks, behind_blocks) = behind_codes.take_block_list(SECOND_COUNT)?;
     behind_blocks.take_end()?;
     Ok(Parsed {
         idm,
@@ -87,8 +90,11 @@ pub(crate) fn parse_write_without_encryption(start: Cursor) -> Result<Parsed, Re
     ensures { BodyRead start.entry 0x08 result }
 {
     let (idm, behind_idm) = start.take_idm()?;
-    let (service_codes, behind_codes) = behind_idm.take_first_codes(WRITE_WITHOUT_ENCRYPTION_ROW)?;
-    let (blocks, behind_blocks) = behind_codes.take_second_blocks()?;
+    let (service_codes, behind_codes) = behind_idm.take_u16_list(
+        WRITE_WITHOUT_ENCRYPTION_ROW,
+        FIRST_COUNT,
+    )?;
+    let (blocks, behind_blocks) = behind_codes.take_block_list(SECOND_COUNT)?;
     let (data, behind_data) = behind_blocks.take_data(blocks.list.count)?;
     behind_data.take_end()?;
     Ok(Parsed {
@@ -119,8 +125,11 @@ pub(crate) fn parse_authentication1(start: Cursor) -> Result<Parsed, Reason>
     ensures { BodyRead start.entry 0x10 result }
 {
     let (idm, behind_idm) = start.take_idm()?;
-    let (areas, behind_areas) = behind_idm.take_first_codes(AUTHENTICATION1_ROW)?;
-    let (services, behind_services) = behind_areas.take_second_codes(AUTHENTICATION1_ROW)?;
+    let (areas, behind_areas) = behind_idm.take_u16_list(AUTHENTICATION1_ROW, FIRST_COUNT)?;
+    let (services, behind_services) = behind_areas.take_u16_list(
+        AUTHENTICATION1_ROW,
+        SECOND_COUNT,
+    )?;
     let (challenge, _) = behind_services.take_challenge_8()?;
     Ok(Parsed {
         idm,
@@ -129,6 +138,7 @@ pub(crate) fn parse_authentication1(start: Cursor) -> Result<Parsed, Reason>
     })
 }
 
+// Not one function with parse_authentication2_v2: there the code would have to choose the step, the layout and the variant.
 pub(crate) fn parse_authentication2(start: Cursor) -> Result<Parsed, Reason>
     ensures { BodyRead start.entry 0x12 result }
 {
@@ -191,7 +201,7 @@ pub(crate) fn parse_get_node_property(start: Cursor) -> Result<Parsed, Reason>
 {
     let (idm, behind_idm) = start.take_idm()?;
     let (node_property_type, behind_type) = behind_idm.take_node_property_type()?;
-    let (node_codes, behind_codes) = behind_type.take_first_codes(GET_NODE_PROPERTY_ROW)?;
+    let (node_codes, behind_codes) = behind_type.take_u16_list(GET_NODE_PROPERTY_ROW, FIRST_COUNT)?;
     behind_codes.take_end()?;
     Ok(Parsed {
         idm,
@@ -215,7 +225,10 @@ pub(crate) fn parse_authentication1_v2(start: Cursor) -> Result<Parsed, Reason>
 {
     let (idm, behind_idm) = start.take_idm()?;
     let (operation_parameter, behind_parameter) = behind_idm.take_operation_parameter()?;
-    let (nodes, behind_nodes) = behind_parameter.take_first_codes(AUTHENTICATION1_V2_ROW)?;
+    let (nodes, behind_nodes) = behind_parameter.take_u16_list(
+        AUTHENTICATION1_V2_ROW,
+        FIRST_COUNT,
+    )?;
     let (challenge, _) = behind_nodes.take_challenge_16()?;
     Ok(Parsed {
         idm,

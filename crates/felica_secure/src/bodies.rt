@@ -4,7 +4,7 @@ ghost use Rattle.felica_secure.specs.Codes.{ReadCode, WriteCode, RegisterCode};
 
 use crate::kinds::{read_kind, register_kind, write_kind};
 use felica_command::command::{FelicaStandardCommand, Parsed};
-use felica_cursor::cursor::Cursor;
+use felica_cursor::cursor::{Cursor, FIRST_COUNT};
 use felica_format::error::Reason;
 
 // Read and Read v2: bytes behind the block list are ignored.
@@ -12,7 +12,7 @@ pub(crate) fn parse_read(start: Cursor, command_code: u8) -> Result<Parsed, Reas
     requires { ReadCode command_code }
     ensures { BodyRead start.entry command_code result }
 {
-    let (blocks, _) = start.take_first_blocks()?;
+    let (blocks, _) = start.take_block_list(FIRST_COUNT)?;
     Ok(Parsed {
         long: blocks.long,
         ..Parsed::bare(read_kind(command_code, blocks.list))
@@ -24,7 +24,7 @@ pub(crate) fn parse_write(start: Cursor, command_code: u8) -> Result<Parsed, Rea
     requires { WriteCode command_code }
     ensures { BodyRead start.entry command_code result }
 {
-    let (blocks, behind_blocks) = start.take_first_blocks()?;
+    let (blocks, behind_blocks) = start.take_block_list(FIRST_COUNT)?;
     let (data, _) = behind_blocks.take_data(blocks.list.count)?;
     Ok(Parsed {
         long: blocks.long,

@@ -2,20 +2,18 @@
 -- Assumes nothing.
 use Rattle.std.proofs.Common.{◌≡◌, ◌-◌, length, refl, subst, arith}
 use Rattle.std.proofs.lemmas.List.{length-drop}
-use Rattle.std.proofs.lemmas.Result.{err_from_is_err_and}
 use Rattle.felica_format.specs.Basic.{bind}
 use Rattle.felica_format.specs.Read.{read_each, read_elements}
 use Rattle.felica_cursor.specs.Taken.{rest, Takes}
 use Rattle.felica_cursor.specs.Steps.{elements_in, ElementsFrom}
 use Rattle.felica_cursor.specs.declared.cursor.Cursor.{Cursor}
 use Rattle.felica_cursor.proofs.Few.{count_taken}
+use Rattle.felica_cursor.proofs.Laws.{refused}
 use Rattle.felica_cursor.proofs.cursor.Cursor.take_block_list.Goals as goal
 
 pub returns-in_err-count : goal.returns-in_err-count
 unfolding read_elements bind
-returns-in_err-count c =
-    let p = err_from_is_err_and c.from_residual.result c.from_residual.ensures.1 in
-    rw (p.1, p.2) (record { read = rw c.in_err-count.ensures.read refl; placed = tt })
+returns-in_err-count c = refused _ _ c.from_residual.ensures.1 (rw c.in_err-count.ensures.read refl)
 
 pub take_few-requires : goal.take_few-requires
 take_few-requires c =

@@ -1,7 +1,6 @@
 -- `Cursor::take_elements` meets its contract: those taken stand in front of what the rest gives, and the place tells how many of them were long.
 -- Assumes nothing.
 use Rattle.std.proofs.Common.{drop, get_or, ◌≡◌, suc, ◌+◌, ◌-◌, arith, refl, sym, ap, ◌∙◌}
-use Rattle.std.proofs.lemmas.Result.{err_from_is_err_and}
 use Rattle.felica_format.specs.Basic.{refuse}
 use Rattle.felica_format.specs.Read.{read_element}
 use Rattle.felica_format.specs.Reasons.{number_of}
@@ -10,6 +9,7 @@ use Rattle.felica_cursor.specs.Steps.{formed_is}
 use Rattle.felica_cursor.specs.declared.cursor.Cursor.{Cursor}
 use Rattle.felica_cursor.proofs.Blocks.{each_refused, form_size}
 use Rattle.felica_cursor.proofs.Few.{walked_none, walked_more, walked_done, done_takes, cursor_in, element_in}
+use Rattle.felica_cursor.proofs.Laws.{refused}
 use Rattle.felica_cursor.proofs.cursor.Cursor.take_elements.Goals as goal
 
 pub loop-taken-init : goal.loop-taken-init
@@ -22,10 +22,9 @@ returns-in_err-behind c =
     let why = number_of c.in_err-behind.field-0.0 in
     let left = c.args.count - l._taken in
     let more : left ≡ suc (left - 1) = omega arith in
-    let refused : read_element (drop l.cursor.at c.args.self.payload.now) ≡ refuse why =
+    let cut : read_element (drop l.cursor.at c.args.self.payload.now) ≡ refuse why =
     ap (λ p. read_element (drop l.cursor.at p.now)) (sym same) ∙ c.in_err-behind.ensures.read in
-    let p = err_from_is_err_and c.from_residual.result c.from_residual.ensures.1 in
-    rw (p.1, p.2) (record { read = read ∙ each_refused done left (left - 1) why _ more refused; placed = tt })
+    refused _ _ c.from_residual.ensures.1 (read ∙ each_refused done left (left - 1) why _ more cut)
 
 pub loop-taken-preserved : goal.loop-taken-preserved
 loop-taken-preserved c =

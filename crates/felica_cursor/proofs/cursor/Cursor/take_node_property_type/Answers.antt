@@ -2,12 +2,12 @@
 -- Assumes nothing.
 use Rattle.std.proofs.Math.Dec.{ltb}
 use Rattle.std.proofs.Common.{ℕ, List, [], ◌∷◌, refl, sym, ◌∙◌, ◌≡◌}
-use Rattle.std.proofs.lemmas.Result.{err_from_is_err_and}
 use Rattle.felica_format.specs.Basic.{taken, refuse, refuse_if}
 use Rattle.felica_format.specs.Layout.{type_byte, any_byte}
 use Rattle.felica_format.specs.Read.{read_selector}
 use Rattle.felica_format.proofs.Steps.{none_taken}
 use Rattle.felica_command.proofs.Typed.{property_defined, property_undefined}
+use Rattle.felica_cursor.proofs.Laws.{refused}
 use Rattle.felica_cursor.proofs.cursor.Cursor.take_node_property_type.Goals as goal
 
 -- where any byte is refused, so is the type byte, and where one is taken it is tested
@@ -22,9 +22,7 @@ then_tested [] r n e = absurd (none_taken e)
 then_tested (b ∷ s) r n e = let same : b ≡ n = cc in let rest : s ≡ r = cc in rw (same, rest) refl
 
 pub returns-in_err-byte : goal.returns-in_err-byte
-returns-in_err-byte c =
-    let p = err_from_is_err_and c.from_residual.result c.from_residual.ensures.1 in
-    rw (p.1, p.2) (record { read = both_refused _ _ c.in_err-byte.ensures.read; placed = tt })
+returns-in_err-byte c = refused _ _ c.from_residual.ensures.1 (both_refused _ _ c.in_err-byte.ensures.read)
 
 pub returns-in_default : goal.returns-in_default
 unfolding refuse_if

@@ -2,19 +2,16 @@
 -- Assumes nothing.
 use Rattle.std.proofs.Common.{◌+◌, get_or, add-zero, refl, sym, ◌∙◌}
 use Rattle.std.proofs.lemmas.List.{drop-drop, get_or-drop}
-use Rattle.std.proofs.lemmas.Result.{err_from_is_err_and}
 use Rattle.felica_format.specs.Basic.{refuse_if}
 use Rattle.felica_format.specs.Layout.{parameter}
 use Rattle.felica_format.specs.Read.{read_values}
 use Rattle.felica_command.proofs.Typed.{encryption_defined, encryption_undefined, packet_defined, packet_undefined}
-use Rattle.felica_cursor.proofs.Laws.{ending_refused, ending_taken, zero_drop}
+use Rattle.felica_cursor.proofs.Laws.{not_measured, ending_taken, zero_drop}
 use Rattle.felica_cursor.proofs.cursor.Cursor.take_parameter.Goals as goal
 use Rattle.felica_cursor.proofs.cursor.Cursor.take_parameter.Goals.{then-not-all_zero-via-then-not-all_zero, then-not-all_zero-via-else-not-all_zero+then-not-all_zero-2}
 
 pub returns-in_err-measure : goal.returns-in_err-measure
-returns-in_err-measure c =
-    let p = err_from_is_err_and c.from_residual.result c.from_residual.ensures.1 in
-    rw (p.1, p.2) (record { read = ending_refused parameter _ _ c.in_err-measure.ensures.read; placed = tt })
+returns-in_err-measure c = not_measured parameter _ _ _ c.in_err-measure.ensures c.from_residual.ensures.1
 
 pub returns-then-not-all_zero : goal.returns-then-not-all_zero
 unfolding read_values refuse_if

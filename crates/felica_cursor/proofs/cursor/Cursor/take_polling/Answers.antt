@@ -1,19 +1,16 @@
 -- `Cursor::take_polling` meets its contract.
 -- Assumes nothing.
 use Rattle.std.proofs.Common.{◌≡◌, ◌+◌, true, false, not, get_or, refl, sym, ap, ◌∙◌}
-use Rattle.std.proofs.lemmas.Result.{err_from_is_err_and}
 use Rattle.std.proofs.Math.Dec.{ltb}
 use Rattle.std.proofs.lemmas.List.{get_or-drop}
 use Rattle.felica_format.specs.Basic.{refuse_if}
 use Rattle.felica_format.specs.Layout.{polling}
 use Rattle.felica_format.specs.Read.{read_values}
-use Rattle.felica_cursor.proofs.Laws.{ending_refused, ending_taken, ltb_not_leb, polling_values}
+use Rattle.felica_cursor.proofs.Laws.{not_measured, ending_taken, ltb_not_leb, polling_values}
 use Rattle.felica_cursor.proofs.cursor.Cursor.take_polling.Goals as goal
 
 pub returns-in_err-measure : goal.returns-in_err-measure
-returns-in_err-measure c =
-    let p = err_from_is_err_and c.from_residual.result c.from_residual.ensures.1 in
-    rw (p.1, p.2) (record { read = ending_refused polling _ _ c.in_err-measure.ensures.read; placed = tt })
+returns-in_err-measure c = not_measured polling _ _ _ c.in_err-measure.ensures c.from_residual.ensures.1
 
 pub returns-then-not-is_polling_request_code : goal.returns-then-not-is_polling_request_code
 unfolding read_values refuse_if

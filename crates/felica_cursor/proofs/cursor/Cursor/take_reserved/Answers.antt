@@ -2,17 +2,14 @@
 -- Assumes nothing.
 use Rattle.std.proofs.Common.{refl, sym, add-zero}
 use Rattle.std.proofs.lemmas.List.{drop-drop}
-use Rattle.std.proofs.lemmas.Result.{err_from_is_err_and}
 use Rattle.felica_format.specs.Basic.{refuse_if}
 use Rattle.felica_format.specs.Layout.{reserved}
 use Rattle.felica_format.specs.Read.{read_values}
-use Rattle.felica_cursor.proofs.Laws.{ending_refused, ending_taken, zero_drop}
+use Rattle.felica_cursor.proofs.Laws.{not_measured, ending_taken, zero_drop}
 use Rattle.felica_cursor.proofs.cursor.Cursor.take_reserved.Goals as goal
 
 pub returns-in_err-measure : goal.returns-in_err-measure
-returns-in_err-measure c =
-    let p = err_from_is_err_and c.from_residual.result c.from_residual.ensures.1 in
-    rw (p.1, p.2) (record { read = ending_refused reserved _ _ c.in_err-measure.ensures.read; placed = tt })
+returns-in_err-measure c = not_measured reserved _ _ _ c.in_err-measure.ensures c.from_residual.ensures.1
 
 pub returns-then-not-all_zero : goal.returns-then-not-all_zero
 unfolding read_values refuse_if

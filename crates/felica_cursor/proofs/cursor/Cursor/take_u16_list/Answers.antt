@@ -1,20 +1,18 @@
 -- `Cursor::take_u16_list` meets its contract.
 -- Assumes nothing.
 use Rattle.std.proofs.Common.{refl, subst}
-use Rattle.std.proofs.lemmas.Result.{err_from_is_err_and}
 use Rattle.felica_format.specs.Basic.{bind}
 use Rattle.felica_format.specs.Read.{read_words, read_codes}
 use Rattle.felica_command.specs.Meaning.{codes_at}
 use Rattle.felica_cursor.specs.Taken.{rest, Takes}
 use Rattle.felica_cursor.specs.Steps.{CodesFrom}
 use Rattle.felica_cursor.specs.declared.cursor.Cursor.{Cursor}
+use Rattle.felica_cursor.proofs.Laws.{refused}
 use Rattle.felica_cursor.proofs.cursor.Cursor.take_u16_list.Goals as goal
 
 pub returns-in_err-count : goal.returns-in_err-count
 unfolding read_codes bind
-returns-in_err-count c =
-    let p = err_from_is_err_and c.from_residual.result c.from_residual.ensures.1 in
-    rw (p.1, p.2) (record { read = rw c.in_err-count.ensures.read refl; placed = tt })
+returns-in_err-count c = refused _ _ c.from_residual.ensures.1 (rw c.in_err-count.ensures.read refl)
 
 pub returns : goal.returns
 unfolding read_codes bind

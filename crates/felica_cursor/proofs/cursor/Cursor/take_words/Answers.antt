@@ -2,16 +2,13 @@
 -- Assumes nothing.
 use Rattle.std.proofs.Common.{refl, add-zero}
 use Rattle.std.proofs.lemmas.List.{drop-drop}
-use Rattle.std.proofs.lemmas.Result.{err_from_is_err_and}
 use Rattle.felica_format.specs.Layout.{words}
 use Rattle.felica_format.specs.Read.{read_values}
-use Rattle.felica_cursor.proofs.Laws.{ending_refused, ending_taken, word_drop}
+use Rattle.felica_cursor.proofs.Laws.{not_measured, ending_taken, word_drop}
 use Rattle.felica_cursor.proofs.cursor.Cursor.take_words.Goals as goal
 
 pub returns-in_err-measure : goal.returns-in_err-measure
-returns-in_err-measure c =
-    let p = err_from_is_err_and c.from_residual.result c.from_residual.ensures.1 in
-    rw (p.1, p.2) (record { read = ending_refused words _ _ c.in_err-measure.ensures.read; placed = tt })
+returns-in_err-measure c = not_measured words _ _ _ c.in_err-measure.ensures c.from_residual.ensures.1
 
 pub returns : goal.returns
 unfolding read_values
