@@ -1,6 +1,6 @@
 -- Laws of the steps on the bytes that are left at a position.
 -- Assumes nothing.
-use Rattle.std.proofs.Common.{◌≡◌, refl, sym, ap, ◌∙◌, Bool, true, false, not, List, [], ◌∷◌, ℕ, zero, suc, ◌+◌, ◌<◌, ◌≤◌, add-one, add-zero, add-suc, arith, ◌&&◌, ltb, leb, eqb, length, get_or, take, drop, drop-cons, drop-drop, get_or-drop, leb-true, leb-false, lt-ltb, le-ltb, Result, Ok, Err, IsErrAnd}
+use Rattle.std.proofs.Common.{◌≡◌, refl, sym, ap, ◌∙◌, Bool, true, false, not, List, [], ◌∷◌, ℕ, zero, suc, ◌+◌, ◌<◌, ◌≤◌, add-one, add-zero, add-suc, arith, ◌&&◌, ltb, leb, eqb, length, get_or, take, drop, drop-cons, drop-drop, get_or-drop, leb-true, leb-false, lt-ltb, le-ltb, Result, Ok, Err, IsErr, IsErrAnd}
 use Rattle.std.specs.List.{list_all}
 use Rattle.std.proofs.lemmas.Result.{err_from_is_err_and}
 use Rattle.felica_format.specs.Basic.{Step, taken, refuse, refuse_if, zeros, word_of, word_at, ◌and◌}
@@ -87,8 +87,8 @@ no_words n l e = rw e
 
 -- a step that hands on a refusal
 pub refused : {T A : Type 0} {meant : T → A} {step : Step A} {P : T → Cursor → Type 0} (why : Reason) (r : Result (T × Cursor) Reason)
-    → IsErrAnd r (λ y. y ≡ why) → step ≡ refuse (number_of why) → Takes meant step P r
-refused why r e read = let p = err_from_is_err_and r e in rw (p.1, p.2) (record { read = read; placed = tt })
+    → IsErr r × IsErrAnd r (λ y. y ≡ why) → step ≡ refuse (number_of why) → Takes meant step P r
+refused why r is read = let p = err_from_is_err_and r is.1 in rw (p.1, p.2) (record { read = read; placed = tt })
 
 -- the fixed bytes that end a layout, once they are measured
 refused_both : {A B : Type 0} (a b : Bool) (x : Step A) (y : Step B) (v : A) (l : List ℕ) (g : ℕ) → x ≡ taken v l
@@ -124,7 +124,7 @@ ending_alone e l v r h =
 
 -- a step whose bytes are not measured
 pub not_measured : {T : Type 0} {meant : T → EndFields} {P : T → Cursor → Type 0} (e : Ending) (c : Cursor) (why : Reason) (r : Result (T × Cursor) Reason)
-    → Takes (as_size (size_of e)) (measured (size_of e) (rest c)) (Measured c (size_of e)) (Err why) → IsErrAnd r (λ y. y ≡ why)
+    → Takes (as_size (size_of e)) (measured (size_of e) (rest c)) (Measured c (size_of e)) (Err why) → IsErr r × IsErrAnd r (λ y. y ≡ why)
     → Takes meant (read_ending e nothing (rest c)) P r
 not_measured e c why r t is = refused why r is (ending_refused e (rest c) _ t.read)
 

@@ -118,6 +118,7 @@ impl<'a> Cursor<'a> {
     }
 
     // The operation parameter of Authentication1 v2, any byte.
+    #[tactic(auto, using(crate::proofs::Laws::front_at), unfolding(felica_format::specs::Read::read_selector))]
     pub fn take_operation_parameter(self) -> Taken<'a, u8>
         ensures { Takes itself (read_selector any_byte (rest self.entry)) (To (moved self.entry 1)) result }
     {
@@ -167,6 +168,7 @@ impl<'a> Cursor<'a> {
     }
 
     // parse_u16_list_le: the codes behind their count.
+    #[tactic(auto, unfolding(felica_format::specs::Read::read_words, felica_format::specs::Basic::refuse_if))]
     pub fn take_u16s(self, count: u8) -> Taken<'a, Part>
         ensures { Takes (codes_at self.entry.payload.now) (read_words count (rest self.entry)) (CodesFrom self.entry) result }
     {
@@ -282,6 +284,7 @@ impl<'a> Cursor<'a> {
     }
 
     // 16 bytes for each block.
+    #[tactic(auto, unfolding(felica_format::specs::Read::read_data, felica_format::specs::Basic::refuse_if))]
     pub fn take_data(self, blocks: usize) -> Taken<'a, Part>
         ensures { Takes (bytes_at self.entry.payload.now) (read_data true blocks (rest self.entry)) (DataFrom self.entry blocks) result }
     {
@@ -301,6 +304,7 @@ impl<'a> Cursor<'a> {
 }
 
 // The bytes of an element, by its first.
+#[tactic(auto, using(crate::proofs::Few::size_by_bit))]
 fn element_size(header: u8) -> usize
     ensures { result ≡ element_size header }
 {

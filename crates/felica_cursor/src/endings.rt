@@ -45,6 +45,7 @@ fn are_zeros(bytes: &[u8]) -> bool
 }
 
 // The bytes at a place are all 00.
+#[tactic(auto, using(crate::proofs::Laws::zero_all))]
 fn all_zero(payload: &[u8], at: usize, count: usize) -> bool
     requires { at + count ≤ length payload.now }
     ensures { result ≡ zero_at count payload.now at }
@@ -54,6 +55,7 @@ fn all_zero(payload: &[u8], at: usize, count: usize) -> bool
 
 impl<'a> Cursor<'a> {
     // The bytes that end a layout are measured: the position stays.
+    #[tactic(auto, unfolding(crate::specs::Steps::measured, felica_format::specs::Basic::refuse_if))]
     pub fn measure(self, size: usize) -> Taken<'a, ()>
         ensures { Takes (as_size size) (measured size (rest self.entry)) (Measured self.entry size) result }
     {
@@ -132,6 +134,7 @@ impl<'a> Cursor<'a> {
     }
 
     // A two-byte number, with a package behind it.
+    #[tactic(auto, using(crate::proofs::Laws::word_drop), unfolding(felica_format::specs::Read::read_ending, felica_format::specs::Read::read_values, felica_format::specs::Basic::refuse_if))]
     pub fn take_packaged_word(self) -> Taken<'a, u16>
         ensures { Takes word_is (read_ending word a_package (rest self.entry)) (To (moved self.entry 2)) result }
     {

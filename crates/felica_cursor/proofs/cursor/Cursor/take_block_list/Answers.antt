@@ -13,7 +13,7 @@ use Rattle.felica_cursor.proofs.cursor.Cursor.take_block_list.Goals as goal
 
 pub returns-in_err-count : goal.returns-in_err-count
 unfolding read_elements bind
-returns-in_err-count c = refused _ _ c.from_residual.ensures.1 (rw c.in_err-count.ensures.read refl)
+returns-in_err-count c = refused _ _ c.from_residual.ensures (rw c.in_err-count.ensures.read refl)
 
 pub take_few-requires : goal.take_few-requires
 take_few-requires c =

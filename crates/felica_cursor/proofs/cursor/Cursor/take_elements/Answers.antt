@@ -24,7 +24,7 @@ returns-in_err-behind c =
     let more : left ≡ suc (left - 1) = omega arith in
     let cut : read_element (drop l.cursor.at c.args.self.payload.now) ≡ refuse why =
     ap (λ p. read_element (drop l.cursor.at p.now)) (sym same) ∙ c.in_err-behind.ensures.read in
-    refused _ _ c.from_residual.ensures.1 (read ∙ each_refused done left (left - 1) why _ more cut)
+    refused _ _ c.from_residual.ensures (read ∙ each_refused done left (left - 1) why _ more cut)
 
 pub loop-taken-preserved : goal.loop-taken-preserved
 loop-taken-preserved c =

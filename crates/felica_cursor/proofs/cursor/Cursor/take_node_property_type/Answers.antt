@@ -22,7 +22,7 @@ then_tested [] r n e = absurd (none_taken e)
 then_tested (b ∷ s) r n e = let same : b ≡ n = cc in let rest : s ≡ r = cc in rw (same, rest) refl
 
 pub returns-in_err-byte : goal.returns-in_err-byte
-returns-in_err-byte c = refused _ _ c.from_residual.ensures.1 (both_refused _ _ c.in_err-byte.ensures.read)
+returns-in_err-byte c = refused _ _ c.from_residual.ensures (both_refused _ _ c.in_err-byte.ensures.read)
 
 pub returns-in_default : goal.returns-in_default
 unfolding refuse_if

@@ -11,7 +11,7 @@ use Rattle.felica_cursor.proofs.cursor.Cursor.take_parameter.Goals as goal
 use Rattle.felica_cursor.proofs.cursor.Cursor.take_parameter.Goals.{then-not-all_zero-via-then-not-all_zero, then-not-all_zero-via-else-not-all_zero+then-not-all_zero-2}
 
 pub returns-in_err-measure : goal.returns-in_err-measure
-returns-in_err-measure c = not_measured parameter _ _ _ c.in_err-measure.ensures c.from_residual.ensures.1
+returns-in_err-measure c = not_measured parameter _ _ _ c.in_err-measure.ensures c.from_residual.ensures
 
 pub returns-then-not-all_zero : goal.returns-then-not-all_zero
 unfolding read_values refuse_if

@@ -10,7 +10,7 @@ use Rattle.felica_cursor.proofs.Laws.{not_measured, ending_taken, ltb_not_leb, p
 use Rattle.felica_cursor.proofs.cursor.Cursor.take_polling.Goals as goal
 
 pub returns-in_err-measure : goal.returns-in_err-measure
-returns-in_err-measure c = not_measured polling _ _ _ c.in_err-measure.ensures c.from_residual.ensures.1
+returns-in_err-measure c = not_measured polling _ _ _ c.in_err-measure.ensures c.from_residual.ensures
 
 pub returns-then-not-is_polling_request_code : goal.returns-then-not-is_polling_request_code
 unfolding read_values refuse_if

@@ -9,7 +9,7 @@ use Rattle.felica_cursor.proofs.Laws.{not_measured, ending_taken, zero_drop}
 use Rattle.felica_cursor.proofs.cursor.Cursor.take_reserved.Goals as goal
 
 pub returns-in_err-measure : goal.returns-in_err-measure
-returns-in_err-measure c = not_measured reserved _ _ _ c.in_err-measure.ensures c.from_residual.ensures.1
+returns-in_err-measure c = not_measured reserved _ _ _ c.in_err-measure.ensures c.from_residual.ensures
 
 pub returns-then-not-all_zero : goal.returns-then-not-all_zero
 unfolding read_values refuse_if

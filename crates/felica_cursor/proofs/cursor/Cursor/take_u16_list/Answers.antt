@@ -12,7 +12,7 @@ use Rattle.felica_cursor.proofs.cursor.Cursor.take_u16_list.Goals as goal
 
 pub returns-in_err-count : goal.returns-in_err-count
 unfolding read_codes bind
-returns-in_err-count c = refused _ _ c.from_residual.ensures.1 (rw c.in_err-count.ensures.read refl)
+returns-in_err-count c = refused _ _ c.from_residual.ensures (rw c.in_err-count.ensures.read refl)
 
 pub returns : goal.returns
 unfolding read_codes bind

@@ -8,7 +8,7 @@ use Rattle.felica_cursor.proofs.Laws.{not_measured, ending_taken, word_drop}
 use Rattle.felica_cursor.proofs.cursor.Cursor.take_words.Goals as goal
 
 pub returns-in_err-measure : goal.returns-in_err-measure
-returns-in_err-measure c = not_measured words _ _ _ c.in_err-measure.ensures c.from_residual.ensures.1
+returns-in_err-measure c = not_measured words _ _ _ c.in_err-measure.ensures c.from_residual.ensures
 
 pub returns : goal.returns
 unfolding read_values
