@@ -8,6 +8,7 @@ use felica_command::command::Part;
 use felica_command::types::{NodeCode, ServiceCode};
 use felica_cursor::cursor::{Cursor, FormedElement, word_of};
 
+#[tactic(auto, using(crate::proofs::OneEntry::no_code, crate::proofs::OneEntry::no_room, crate::proofs::OneEntry::one_code))]
 fn word_entry(payload: &[u8], list: Part, i: usize) -> Option<u16>
     ensures { result ≡ code_entry payload.now list i }
 {
@@ -19,6 +20,7 @@ fn word_entry(payload: &[u8], list: Part, i: usize) -> Option<u16>
     Some(word_of(payload[at], payload[at + 1]))
 }
 
+// Not one function with `node_code_at`: it would carry `From<u16>` for both wrappers, with a law, to share one `map`.
 pub fn service_code_at(payload: &[u8], list: Part, i: usize) -> Option<ServiceCode>
     ensures { service_code_found result ≡ code_entry payload.now list i }
 {

@@ -39,7 +39,8 @@ pub(crate) fn parse_polling(start: Cursor) -> Result<Parsed, Reason>
     }))
 }
 
-// parse_request_service, parse_request_block_information, parse_request_block_information_ex and parse_request_service_v2
+// parse_request_service, parse_request_block_information, parse_request_block_information_ex and parse_request_service_v2.
+// Here and below the code stands beside the cursor: a struct of both would be taken apart at once, since a step wants the cursor alone and the variant the code.
 pub(crate) fn parse_code_list(start: Cursor, command_code: u8) -> Result<Parsed, Reason>
     requires { CodeListCode command_code }
     ensures { BodyRead start.entry command_code result }
