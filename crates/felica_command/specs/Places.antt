@@ -121,6 +121,10 @@ abbrev pub Inside : List ℕ → Places → Type 0
 Inside s q =
     CodesInside s q.first × CodesInside s q.second × ElementsInside s q.elements × BytesInside s q.block_data × BytesInside s q.issue_package
 
+-- All that an entry of the parser promises: the complete account of its result, and every part inside the payload.
+abbrev pub ParserAccount : List ℕ → ℕ → Reading → ParserResult → Type 0
+ParserAccount s at reading r = (meaning s r ≡ reading) × (places_of r ≡ read_places at s reading) × Canonical r × Inside s (places_of r)
+
 -- The places that the definitions settle lie inside the payload (proofs/Inside.antt).
 abbrev pub PayloadInside : Type 0
 PayloadInside = (s : List ℕ) → Inside s (read_places 1 s (read_payload s))

@@ -3,8 +3,7 @@
 
 ghost use Rattle.std.specs.Prelude.{◌≡◌, drop};
 ghost use Rattle.felica_format.specs.Read.{read_frame};
-ghost use Rattle.felica_command.specs.Meaning.{meaning, Canonical};
-ghost use Rattle.felica_command.specs.Places.{places_of, read_places, Inside};
+ghost use Rattle.felica_command.specs.Places.{ParserAccount};
 
 use felica_command::command::{Parsed, Refusal};
 use felica_format::error::Reason;
@@ -12,7 +11,7 @@ use felica_parse::parse_payload;
 
 // The length byte counts itself. The places of the parts count from the first byte behind it.
 pub fn parse_frame(frame: &[u8]) -> Result<Parsed, Refusal>
-    ensures { (meaning (drop 1 frame.now) result ≡ read_frame frame.now) × (places_of result ≡ read_places 1 (drop 1 frame.now) (read_frame frame.now)) × Canonical result × Inside (drop 1 frame.now) (places_of result) }
+    ensures { ParserAccount (drop 1 frame.now) 1 (read_frame frame.now) result }
 {
     let Some((&expected_len, payload)) = frame.split_first() else {
         return Err(Refusal::without_code(Reason::EmptyFrame));

@@ -3,10 +3,9 @@
 use Rattle.std.proofs.Common.{ℕ, ◌≡◌, refl, sym, ap, ◌∙◌, subst, Bool, true, false, List, Ok, Err}
 use Rattle.felica_format.specs.Read.{Answer as Reading}
 use Rattle.felica_command.specs.Meaning.{fields_of, ParserResult, meaning, Canonical}
-use Rattle.felica_command.specs.Places.{places_of, read_places, Inside}
+use Rattle.felica_command.specs.Places.{places_of, read_places, Inside, ParserAccount}
 use Rattle.felica_command.specs.Lists.{lists_in}
 use Rattle.felica_command.proofs.Inside.{none_inside}
-use Rattle.felica_command.proofs.Settled.{Settled}
 use Rattle.felica_lists.specs.Lists.{Buffers, fits}
 use Rattle.felica_lists.specs.Rules.{ListAccount}
 use Rattle.felica_lists.specs.Fill.{lists_at, Given, given, give}
@@ -24,7 +23,7 @@ told s at (Ok p) b placed canonical inside = go (fits (lists_at s (lists_in (fie
     go true e = rw e (refl, placed, canonical, inside)
     go false e = rw e (refl, refl, tt, none_inside s)
 
-pub given_told : (s : List ℕ) (at : ℕ) (reading : Reading) (p r : ParserResult) (b after : Buffers) → Settled s at reading p → given r after ≡ give s p b
+pub given_told : (s : List ℕ) (at : ℕ) (reading : Reading) (p r : ParserResult) (b after : Buffers) → ParserAccount s at reading p → given r after ≡ give s p b
     → ListAccount s at reading b r after
 given_told s at reading p r b after (means, placed, canonical, inside) e =
     let all = told s at p b (placed ∙ ap (read_places at s) (sym means)) canonical inside in

@@ -5,8 +5,7 @@ ghost use Rattle.std.specs.Prelude.{◌≡◌, ℕ, List, Some};
 ghost use Rattle.felica_format.specs.Layout.{class_of};
 ghost use Rattle.felica_format.specs.Read.{read_payload, read_plain_as, refused};
 ghost use Rattle.felica_format.specs.Reasons.{number_of};
-ghost use Rattle.felica_command.specs.Meaning.{meaning, Canonical};
-ghost use Rattle.felica_command.specs.Places.{places_of, read_places, Inside, Account};
+ghost use Rattle.felica_command.specs.Places.{Account, ParserAccount};
 ghost use Rattle.felica_cursor.specs.Taken.{rest};
 ghost use Rattle.felica_cursor.specs.Body.{result_of};
 ghost use Rattle.felica_parse.specs.Codes.{NotPlain};
@@ -29,7 +28,7 @@ use plain::{
 
 // A payload: the code byte and the body of its command.
 pub fn parse_payload(payload: &[u8]) -> Result<Parsed, Refusal>
-    ensures { (meaning payload.now result ≡ read_payload payload.now) × (places_of result ≡ read_places 1 payload.now (read_payload payload.now)) × Canonical result × Inside payload.now (places_of result) }
+    ensures { ParserAccount payload.now 1 (read_payload payload.now) result }
 {
     let Some(&command_code) = payload.first() else {
         return Err(Refusal::without_code(Reason::EmptyPayload));

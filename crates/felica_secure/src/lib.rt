@@ -3,8 +3,7 @@
 
 ghost use Rattle.std.specs.Prelude.{◌≡◌};
 ghost use Rattle.felica_format.specs.Read.{read_secure};
-ghost use Rattle.felica_command.specs.Meaning.{meaning, Canonical};
-ghost use Rattle.felica_command.specs.Places.{places_of, read_places, Inside, Account};
+ghost use Rattle.felica_command.specs.Places.{Account, ParserAccount};
 ghost use Rattle.felica_cursor.specs.Taken.{rest};
 ghost use Rattle.felica_cursor.specs.Body.{result_of};
 
@@ -21,7 +20,7 @@ use felica_format::error::Reason;
 
 // A plain code is unknown here.
 pub fn parse_secure_payload(command_code: u8, payload: &[u8]) -> Result<Parsed, Refusal>
-    ensures { (meaning payload.now result ≡ read_secure command_code payload.now) × (places_of result ≡ read_places 0 payload.now (read_secure command_code payload.now)) × Canonical result × Inside payload.now (places_of result) }
+    ensures { ParserAccount payload.now 0 (read_secure command_code payload.now) result }
 {
     let body = Cursor { payload, at: 0 };
     parse_command(command_code, body).map_err(|reason| Refusal::of_command(reason, command_code))
