@@ -12,7 +12,7 @@ use felica_format::constants as codes;
 
 const NONE: Part = Part { start: 0, count: 0 };
 
-// The memory that C lends for a command. Each `put_*` writes all of it.
+// The memory that C lends for a command. Each `put_*` writes all of it; what it leaves in `fields` is `exit.0`, in `parts` `exit.1.0`.
 #[derive(Drop)]
 struct FieldsAndParts<'a> {
     fields: &'a mut [u16; 5],
@@ -44,12 +44,8 @@ pub(crate) fn put_fields(
             0,
             service_codes,
         ),
-        FelicaStandardCommand::RequestResponse => out.put_fixed(
+        FelicaStandardCommand::RequestResponse => out.put_code(
             codes::REQUEST_RESPONSE_COMMAND_CODE,
-            0,
-            0,
-            0,
-            0,
         ),
         FelicaStandardCommand::ReadWithoutEncryption {
             service_codes,
@@ -77,12 +73,8 @@ pub(crate) fn put_fields(
             0,
             0,
         ),
-        FelicaStandardCommand::RequestSystemCode => out.put_fixed(
+        FelicaStandardCommand::RequestSystemCode => out.put_code(
             codes::REQUEST_SYSTEM_CODE_COMMAND_CODE,
-            0,
-            0,
-            0,
-            0,
         ),
         FelicaStandardCommand::RequestBlockInformation { node_codes } => out.put_listed(
             codes::REQUEST_BLOCK_INFORMATION_COMMAND_CODE,
@@ -94,13 +86,7 @@ pub(crate) fn put_fields(
             areas,
             services,
         ),
-        FelicaStandardCommand::Authentication2 => out.put_fixed(
-            codes::AUTHENTICATION2_COMMAND_CODE,
-            0,
-            0,
-            0,
-            0,
-        ),
+        FelicaStandardCommand::Authentication2 => out.put_code(codes::AUTHENTICATION2_COMMAND_CODE),
         FelicaStandardCommand::Read { block_list } => out.put_blocks(
             codes::READ_COMMAND_CODE,
             NONE,
@@ -150,12 +136,8 @@ pub(crate) fn put_fields(
             encryption_type.to_byte(),
             packet_type.to_byte(),
         ),
-        FelicaStandardCommand::GetContainerIssueInformation => out.put_fixed(
+        FelicaStandardCommand::GetContainerIssueInformation => out.put_code(
             codes::GET_CONTAINER_ISSUE_INFORMATION_COMMAND_CODE,
-            0,
-            0,
-            0,
-            0,
         ),
         FelicaStandardCommand::GetAreaInformation { node_code } => out.put_fixed(
             codes::GET_AREA_INFORMATION_COMMAND_CODE,
@@ -184,34 +166,16 @@ pub(crate) fn put_fields(
             0,
             service_codes,
         ),
-        FelicaStandardCommand::GetSystemStatus => out.put_fixed(
+        FelicaStandardCommand::GetSystemStatus => out.put_code(
             codes::GET_SYSTEM_STATUS_COMMAND_CODE,
-            0,
-            0,
-            0,
-            0,
         ),
-        FelicaStandardCommand::RequestProductInformation => out.put_fixed(
+        FelicaStandardCommand::RequestProductInformation => out.put_code(
             codes::REQUEST_PRODUCT_INFORMATION_COMMAND_CODE,
-            0,
-            0,
-            0,
-            0,
         ),
-        FelicaStandardCommand::RequestSpecificationVersion => out.put_fixed(
+        FelicaStandardCommand::RequestSpecificationVersion => out.put_code(
             codes::REQUEST_SPECIFICATION_VERSION_COMMAND_CODE,
-            0,
-            0,
-            0,
-            0,
         ),
-        FelicaStandardCommand::ResetMode => out.put_fixed(
-            codes::RESET_MODE_COMMAND_CODE,
-            0,
-            0,
-            0,
-            0,
-        ),
+        FelicaStandardCommand::ResetMode => out.put_code(codes::RESET_MODE_COMMAND_CODE),
         FelicaStandardCommand::Authentication1V2 {
             operation_parameter,
             nodes,
@@ -220,20 +184,10 @@ pub(crate) fn put_fields(
             operation_parameter,
             nodes,
         ),
-        FelicaStandardCommand::Authentication2V2 => out.put_fixed(
+        FelicaStandardCommand::Authentication2V2 => out.put_code(
             codes::AUTHENTICATION2_V2_COMMAND_CODE,
-            0,
-            0,
-            0,
-            0,
         ),
-        FelicaStandardCommand::GetContainerId => out.put_fixed(
-            codes::GET_CONTAINER_ID_COMMAND_CODE,
-            0,
-            0,
-            0,
-            0,
-        ),
+        FelicaStandardCommand::GetContainerId => out.put_code(codes::GET_CONTAINER_ID_COMMAND_CODE),
         FelicaStandardCommand::RegisterIssueId { package } => out.put_packed(
             codes::REGISTER_ISSUE_ID_COMMAND_CODE,
             0,
@@ -252,17 +206,20 @@ pub(crate) fn put_fields(
             service_code.0,
             package,
         ),
-        FelicaStandardCommand::ChangeSystemBlock => out.put_fixed(
+        FelicaStandardCommand::ChangeSystemBlock => out.put_code(
             codes::CHANGE_SYSTEM_BLOCK_COMMAND_CODE,
-            0,
-            0,
-            0,
-            0,
         ),
     }
 }
 
 impl FieldsAndParts<'_> {
+    // Nothing but the code.
+    fn put_code(self, code: u8) -> u8
+        ensures { put result self.exit.0.now self.exit.1.0.now ≡ put_fields (fixed code 0 0 0 0) }
+    {
+        self.put_fixed(code, 0, 0, 0, 0)
+    }
+
     fn put_fixed(self, code: u8, number: u16, index: u16, option: u8, choice: u8) -> u8
         ensures { put result self.exit.0.now self.exit.1.0.now ≡ put_fields (fixed code number index option choice) }
     {
