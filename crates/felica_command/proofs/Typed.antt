@@ -1,10 +1,10 @@
--- A byte has a type exactly when it is 0 or 1, and is then that type's byte.
+-- A byte has a type exactly when it is 0 or 1, and is then that type's byte; each type is the type of its byte.
 -- Assumes nothing.
 use Rattle.std.specs.Prelude.{Some, None}
 use Rattle.std.proofs.Common.{ℕ, ◌<◌, ◌≡◌, refl, sym, ap, ◌∙◌, Bool, true, false, cond, arith}
 use Rattle.std.proofs.Math.Dec.{ltb, eqb}
 use Rattle.std.proofs.lemmas.Bool.{eqb-true, eqb-false, lt-ltb, le-ltb}
-use Rattle.felica_command.specs.Types.{property_of, property_index}
+use Rattle.felica_command.specs.Types.{property_of, property_index, TypeByte}
 use Rattle.felica_command.specs.Types.{node_property_type_of, node_property_byte, encryption_type_of, encryption_byte, packet_type_of, packet_byte}
 use Rattle.felica_command.specs.declared.types.ContainerProperty.{ContainerProperty}
 use Rattle.felica_command.specs.declared.types.ContainerProperty.TheVariants.{Property1, Property2, Unknown}
@@ -53,6 +53,27 @@ packet_defined b t = defined packet_byte NodeCodeSize2 NodeCodeSize4 b t refl re
 
 pub packet_undefined : (b : ℕ) → packet_type_of b ≡ None → ltb 1 b ≡ true
 packet_undefined b = undefined packet_byte NodeCodeSize2 NodeCodeSize4 b
+
+pub property_typed : TypeByte node_property_byte node_property_type_of
+property_typed = record { back = property_back; only = λ b t e. (property_defined b t e).1 }
+  where
+    property_back : (t : NodePropertyType) → node_property_type_of (node_property_byte t) ≡ Some t
+    property_back ValueLimitedPurseService = refl
+    property_back MacCommunication = refl
+
+pub encryption_typed : TypeByte encryption_byte encryption_type_of
+encryption_typed = record { back = encryption_back; only = λ b t e. (encryption_defined b t e).1 }
+  where
+    encryption_back : (t : SetParameterEncryptionType) → encryption_type_of (encryption_byte t) ≡ Some t
+    encryption_back SrmType1 = refl
+    encryption_back SrmType2 = refl
+
+pub packet_typed : TypeByte packet_byte packet_type_of
+packet_typed = record { back = packet_back; only = λ b t e. (packet_defined b t e).1 }
+  where
+    packet_back : (t : SetParameterPacketType) → packet_type_of (packet_byte t) ≡ Some t
+    packet_back NodeCodeSize2 = refl
+    packet_back NodeCodeSize4 = refl
 
 -- the property of an index has that index
 pub index_of_property : (n : ℕ) → property_index (property_of n) ≡ n

@@ -1,6 +1,6 @@
 -- The number of each typed value, and the typed value of a number.
 -- Assumes nothing.
-use Rattle.std.specs.Prelude.{ℕ, cond, eqb, Option, Some, None}
+use Rattle.std.specs.Prelude.{◌≡◌, ℕ, cond, eqb, Option, Some, None}
 use Rattle.felica_format.specs.Command.{Element}
 use Rattle.felica_command.specs.declared.types.BlockListElement.{BlockListElement}
 use Rattle.felica_command.specs.declared.types.ContainerProperty.{ContainerProperty}
@@ -21,13 +21,22 @@ property_index Property1 = 0
 property_index Property2 = 1
 property_index (Unknown n) = n
 
+-- the type that a byte names, of two types
+abbrev pub type_of : {T : Type 0} → T → T → ℕ → Option T
+type_of first second b = cond (eqb b 0x00) (Some first) (cond (eqb b 0x01) (Some second) None)
+
+-- a type is the type of its byte, and a byte that names a type is that type's
+pub record TypeByte {T : Type 0} (byte : T → ℕ) (typed : ℕ → Option T) : Type 0 where
+  pub back : (t : T) → typed (byte t) ≡ Some t
+  pub only : (b : ℕ) (t : T) → typed b ≡ Some t → b ≡ byte t
+
 -- "type 00 or 01" of 28
 abbrev pub node_property_byte : NodePropertyType → ℕ
 node_property_byte ValueLimitedPurseService = 0x00
 node_property_byte MacCommunication = 0x01
 
 abbrev pub node_property_type_of : ℕ → Option NodePropertyType
-node_property_type_of b = cond (eqb b 0x00) (Some ValueLimitedPurseService) (cond (eqb b 0x01) (Some MacCommunication) None)
+node_property_type_of b = type_of ValueLimitedPurseService MacCommunication b
 
 -- "type 00 or 01, type 00 or 01" of 20
 abbrev pub encryption_byte : SetParameterEncryptionType → ℕ
@@ -35,14 +44,14 @@ encryption_byte SrmType1 = 0x00
 encryption_byte SrmType2 = 0x01
 
 abbrev pub encryption_type_of : ℕ → Option SetParameterEncryptionType
-encryption_type_of b = cond (eqb b 0x00) (Some SrmType1) (cond (eqb b 0x01) (Some SrmType2) None)
+encryption_type_of b = type_of SrmType1 SrmType2 b
 
 abbrev pub packet_byte : SetParameterPacketType → ℕ
 packet_byte NodeCodeSize2 = 0x00
 packet_byte NodeCodeSize4 = 0x01
 
 abbrev pub packet_type_of : ℕ → Option SetParameterPacketType
-packet_type_of b = cond (eqb b 0x00) (Some NodeCodeSize2) (cond (eqb b 0x01) (Some NodeCodeSize4) None)
+packet_type_of b = type_of NodeCodeSize2 NodeCodeSize4 b
 
 -- an element of a block list
 abbrev pub element_is : BlockListElement → Element

@@ -185,7 +185,8 @@ impl Refusal {
     }
 }
 
-// A command with its arrays, zero where it lacks them, and how many of its elements were long.
+// A command with its arrays, zero where it lacks them, and how many of its elements were long. The functions for C store the arrays whole, zeros too, and the
+// command's kind says whether it has them: an `Option` would say it a second time.
 #[derive(Clone, Copy, Debug, PartialEq, Eq)]
 pub struct Parsed {
     pub command: FelicaStandardCommand,

@@ -5,7 +5,8 @@ ghost use Rattle.felica_command.specs.Lists.{lists_in};
 
 use crate::command::{FelicaStandardCommand, Part};
 
-// A list that the command lacks is the part of no entries at 0.
+// A list that the command lacks is the part of no entries at 0, for C too (include/felica.h). Those who read the lists (felica_lists, felica_line, felica_answers) go
+// by their counts; an `Option<Part>` would be taken apart by each of them, with 0 for `None`.
 #[derive(Clone, Copy, Debug, Default, PartialEq, Eq)]
 pub struct Lists {
     // The code list; of Authentication1 the areas.

@@ -1,6 +1,6 @@
 // The types of types.rs that the commands use, under its names.
 ghost use Rattle.std.specs.Prelude.{◌≡◌};
-ghost use Rattle.felica_command.specs.Types.{property_of, property_index, node_property_type_of, node_property_byte};
+ghost use Rattle.felica_command.specs.Types.{property_of, property_index, type_of, node_property_type_of, node_property_byte};
 ghost use Rattle.felica_command.specs.Types.{encryption_type_of, encryption_byte, packet_type_of, packet_byte};
 
 #[derive(Clone, Copy, Debug, PartialEq, Eq)]
@@ -51,6 +51,18 @@ impl ContainerProperty {
     }
 }
 
+// What a type byte names: 00 the first of two types, 01 the second. `to_byte` and `from_byte` are the Rust's names; `TryFrom<u8>` would have each type carry an
+// error type, and the parser, which has a reason of its own for each, would drop the error.
+fn type_named<T: Copy>(byte: u8, first: T, second: T) -> Option<T>
+    ensures { result ≡ type_of first second byte }
+{
+    match byte {
+        0x00 => Some(first),
+        0x01 => Some(second),
+        _ => None,
+    }
+}
+
 #[derive(Clone, Copy, Debug, PartialEq, Eq)]
 pub enum NodePropertyType {
     ValueLimitedPurseService = 0x00,
@@ -67,11 +79,11 @@ impl NodePropertyType {
     pub fn from_byte(value: u8) -> Option<Self>
         ensures { result ≡ node_property_type_of value }
     {
-        match value {
-            0x00 => Some(Self::ValueLimitedPurseService),
-            0x01 => Some(Self::MacCommunication),
-            _ => None,
-        }
+        type_named(
+            value,
+            Self::ValueLimitedPurseService,
+            Self::MacCommunication,
+        )
     }
 }
 
@@ -91,11 +103,7 @@ impl SetParameterEncryptionType {
     pub fn from_byte(value: u8) -> Option<Self>
         ensures { result ≡ encryption_type_of value }
     {
-        match value {
-            0x00 => Some(Self::SrmType1),
-            0x01 => Some(Self::SrmType2),
-            _ => None,
-        }
+        type_named(value, Self::SrmType1, Self::SrmType2)
     }
 }
 
@@ -115,10 +123,6 @@ impl SetParameterPacketType {
     pub fn from_byte(value: u8) -> Option<Self>
         ensures { result ≡ packet_type_of value }
     {
-        match value {
-            0x00 => Some(Self::NodeCodeSize2),
-            0x01 => Some(Self::NodeCodeSize4),
-            _ => None,
-        }
+        type_named(value, Self::NodeCodeSize2, Self::NodeCodeSize4)
     }
 }

@@ -278,5 +278,5 @@ static CLASSES: [Class; 256] = [
 pub fn class_of(code: u8) -> Class
     ensures { result ≡ class_of code }
 {
-    CLASSES[code as usize]
+    CLASSES[usize::from(code)]
 }

@@ -96,6 +96,7 @@ pub struct Bounds {
     pub greatest: u8,
 }
 
+// Of a layout without a code list: document 01 asks for one table of 25 rows, 0 and 0 where a layout has none.
 const NO_CODES: Bounds = Bounds {
     least: 0,
     greatest: 0,
@@ -164,11 +165,7 @@ pub const MAX_BLOCK_COUNT: u8 = 0xFF;
 pub fn bounds_at(row: usize) -> Bounds
     ensures { result ≡ bounds_at row }
 {
-    if row < BOUNDS.len() {
-        BOUNDS[row]
-    } else {
-        NO_CODES
-    }
+    BOUNDS.get(row).copied().unwrap_or(NO_CODES)
 }
 
 const POLLING_REQUEST_CODES: [u8; 3] = [0x00, 0x01, 0x02];

@@ -34,6 +34,7 @@ pub enum Reason {
 }
 
 impl Reason {
+    // The table's word. A `From<Reason> for u8` would state this equation once more (`from_gives`), under a name that says less.
     pub fn number(self) -> u8
         ensures { result ≡ number_of self }
     {

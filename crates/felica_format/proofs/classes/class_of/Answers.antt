@@ -6,4 +6,4 @@ use Rattle.felica_format.proofs.classes.class_of.Goals as goal
 
 pub returns : goal.returns
 unfolding classes
-returns c = class_at c.args.code (omega arith)
+returns c = rw c.from.ensures (class_at c.args.code (omega arith))
