@@ -1,6 +1,6 @@
 -- Text as the bytes of its characters, and numbers as text.
 -- Assumes nothing.
-use Rattle.std.specs.Prelude.{ℕ, zero, suc, ◌+◌, ◌-◌, ◌/◌, ◌%◌, cond, List, [], ◌∷◌, ◌++◌, ltb, leb, eqb, Option, Some, None}
+use Rattle.std.specs.Prelude.{ℕ, zero, suc, ◌+◌, ◌-◌, ◌/◌, ◌%◌, cond, List, [], ◌∷◌, ◌++◌, length, ltb, leb, eqb, Option, Some, None}
 use Rattle.std.specs.List.{flat_map}
 use Prim.Native.Char.{code}
 use Prim.Native.String.{String, [] as no_text, ◌∷◌ as ◌then◌}
@@ -59,3 +59,7 @@ decimal_text n = decimal_digits n n
 unfoldable pub before : ℕ → List ℕ → List ℕ
 before b [] = []
 before b (x ∷ xs) = cond (eqb x b) [] (x ∷ before b xs)
+
+-- how many those are, and so the place of that byte, where there is one
+abbrev pub place_of : ℕ → List ℕ → Option ℕ
+place_of b s = cond (ltb (length (before b s)) (length s)) (Some (length (before b s))) None
