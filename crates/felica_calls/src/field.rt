@@ -5,7 +5,7 @@ ghost use Rattle.felica_calls.specs.Field.{field_of, behind_field, next_field, b
 use felica_text::find::before;
 
 // A walk along the fields: nothing is left, or the space before the next one.
-#[derive(Clone, Copy)]
+#[derive(Clone, Copy, Debug, PartialEq, Eq)]
 pub(crate) struct Fields<'a> {
     pub(crate) rest: &'a [u8],
 }
