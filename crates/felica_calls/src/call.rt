@@ -10,7 +10,7 @@ use crate::sizes::{Sizes, read_sizes};
 use crate::source::{Source, behind_source, read_source};
 use crate::write::read_write;
 
-// What a line calls for.
+// What a line calls for. Its bytes are counted and not held: a slice has an address, which the equation of `read_call` could not name.
 #[derive(Clone, Copy, Debug, PartialEq, Eq)]
 pub enum Call {
     // To parse so many bytes.
