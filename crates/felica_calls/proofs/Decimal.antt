@@ -3,7 +3,7 @@
 use Rattle.std.proofs.Common.{ℕ, ◌+◌, ◌-◌, ◌*◌, ◌≤◌, ◌<◌, ◌≡◌, refl, Bool, true, false, ◌&&◌, List, [], ◌∷◌, length, get_or, drop, arith, lt-ltb, leb-true, ne_eqb}
 use Rattle.std.specs.Prelude.{Err}
 use Rattle.std.proofs.Math.ListN.{drop_of_length-le}
-use Rattle.felica_put.proofs.Laws.{drop_next}
+use Rattle.std.proofs.lemmas.List.{drop_more}
 use Rattle.felica_calls.specs.Number.{all_decimal, decimal_from, read_number}
 use Rattle.felica_calls.specs.declared.fault.Fault.TheVariants.{BufferTooLong}
 
@@ -18,12 +18,12 @@ module _ (s : List ℕ) (i : ℕ) (h : i < length s) where
   pub digit_is : all_decimal (drop i s) ≡ true → (48 ≤ get_or s i 0) × (get_or s i 0 ≤ 57) × (all_decimal (drop (i + 1) s) ≡ true)
   unfolding all_decimal
   digit_is e =
-      let (low, high, rest) = all_three _ _ _ (rw (drop_next s i 0 h) at e) in
+      let (low, high, rest) = all_three _ _ _ (rw (drop_more s i 0 h) at e) in
       (leb-true _ _ low, leb-true _ _ high, rest)
 
   pub decimal_next : (n : ℕ) → decimal_from n (drop i s) ≡ decimal_from (10 * n + (get_or s i 0 - 48)) (drop (i + 1) s)
   unfolding decimal_from
-  decimal_next n = rw (drop_next s i 0 h)
+  decimal_next n = rw (drop_more s i 0 h)
 
 pub decimal_end : (s : List ℕ) (i n : ℕ) → length s ≤ i → decimal_from n (drop i s) ≡ n
 unfolding decimal_from

@@ -1,8 +1,8 @@
 -- Digits and bytes, and the parts of a line.
 -- Assumes nothing.
-use Rattle.std.proofs.Common.{ℕ, ◌-◌, ◌/◌, ◌%◌, ◌≤◌, ◌<◌, ◌≡◌, refl, ap, ◌∙◌, Bool, true, false, cond, eqb, ltb, leb, List, [], ◌∷◌, ◌++◌, length, get_or, take, drop, arith, length-take, ltb-false, leb-true, ne_eqb, le-ltb}
+use Rattle.std.proofs.Common.{ℕ, ◌-◌, ◌/◌, ◌%◌, ◌≤◌, ◌<◌, ◌≡◌, refl, ap, ◌∙◌, Bool, true, false, cond, ltb, leb, List, [], ◌∷◌, ◌++◌, length, get_or, take, drop, arith, ltb-false, leb-true, ne_eqb, le-ltb}
 use Rattle.std.specs.Prelude.{Ok, Some, None}
-use Rattle.felica_text.specs.Text.{digit_of, before}
+use Rattle.felica_text.specs.Text.{digit_of}
 use Rattle.felica_put.specs.Put.{Buffer, buffer, put}
 use Rattle.felica_put.proofs.Laws.{put_front, take_rest}
 use Rattle.felica_calls.specs.Field.{is_byte}
@@ -26,21 +26,6 @@ unfolding bytes_of
 length_bytes [] = refl
 length_bytes (d ∷ []) = refl
 length_bytes (d ∷ e ∷ s) = omega (arith, length_bytes s)
-
--- The bytes before the first one that equals b are the first ones.
-split : (b x : ℕ) (xs : List ℕ) (t : Bool) → eqb x b ≡ t → take (length (before b xs)) xs ≡ before b xs
-    → take (length (before b (x ∷ xs))) (x ∷ xs) ≡ before b (x ∷ xs)
-unfolding before
-split b x xs true e rest = rw e
-split b x xs false e rest = rw e (ap (λ l. x ∷ l) rest)
-
-pub take_before : (b : ℕ) (s : List ℕ) → take (length (before b s)) s ≡ before b s
-unfolding before
-take_before b [] = refl
-take_before b (x ∷ xs) = split b x xs (eqb x b) refl (take_before b xs)
-
-pub before_within : (b : ℕ) (s : List ℕ) → length (before b s) ≤ length s
-before_within b s = omega (arith, length-take (length (before b s)) s, ap length (take_before b s))
 
 -- two digits more of a walk that puts bytes
 pub pair_put : (b : Buffer) (s : List ℕ) {byte : ℕ} {c all : Buffer} → 2 ≤ length s → byte ≡ byte_of (get_or s 0 0) (get_or s 1 0) → c ≡ put b (byte ∷ [])

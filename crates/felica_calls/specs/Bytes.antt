@@ -2,9 +2,8 @@
 -- Assumes nothing.
 use Rattle.std.specs.Prelude.{ℕ, ◌+◌, ◌*◌, ◌/◌, ◌%◌, Bool, true, false, not, cond, List, [], ◌∷◌, ◌++◌, length, drop, ltb, eqb, Result, Ok, Err, Option, Some, None}
 use Rattle.std.specs.List.{list_all}
-use Prim.Native.Char.{code}
-use Rattle.felica_text.specs.Text.{digit_of}
-use Rattle.felica_calls.specs.Field.{next_field, is_byte}
+use Rattle.felica_text.specs.Text.{text, digit_of}
+use Rattle.felica_calls.specs.Field.{next_field, is_name}
 use Rattle.felica_calls.specs.Read.{Read, read}
 use Rattle.felica_calls.specs.declared.fault.Fault.{Fault}
 use Rattle.felica_calls.specs.declared.fault.Fault.TheVariants.{MissingField, ExtraField, NoDigit as NotADigit, OddDigits, TooManyBytes}
@@ -40,7 +39,7 @@ decoded answer buffer = read answer buffer
 unfoldable pub read_bytes : List ℕ → List ℕ → Decoded
 read_bytes s buffer =
     cond (eqb (length s) 0) (decoded (Err MissingField) buffer)
-    (cond (is_byte (code "-") s) (decoded (Ok 0) buffer)
+    (cond (is_name (text "-") s) (decoded (Ok 0) buffer)
     (cond (not (all_digits s)) (decoded (Err NotADigit) buffer)
     (cond (eqb (length s % 2) 1) (decoded (Err OddDigits) buffer)
     (cond (ltb (length buffer) (length s / 2)) (decoded (Err TooManyBytes) buffer)

@@ -1,10 +1,9 @@
 -- What a line says as a call: a name, then fields, each behind one space. The bytes of a call go to a lent buffer.
 -- Assumes nothing.
 use Rattle.std.specs.Prelude.{ℕ, cond, List, length, drop, eqb, Result, Err}
-use Prim.Native.Char.{code}
 use Rattle.felica_text.specs.Text.{text}
 use Rattle.felica_calls.specs.Read.{Read, read, if_ok, read_in}
-use Rattle.felica_calls.specs.Field.{field_of, behind_field, next_field, behind_next, is_byte, is_name}
+use Rattle.felica_calls.specs.Field.{field_of, behind_field, next_field, behind_next, is_name}
 use Rattle.felica_calls.specs.Bytes.{read_bytes, read_last}
 use Rattle.felica_calls.specs.Source.{read_source, behind_source}
 use Rattle.felica_calls.specs.Sizes.{read_sizes}
@@ -37,8 +36,8 @@ read_list s buffer =
 unfoldable pub read_call : List ℕ → List ℕ → Called
 read_call line buffer =
     cond (eqb (length line) 0) (called (Err EmptyLine) buffer)
-    (cond (is_byte (code "L") (field_of line)) (read_list (drop 1 (behind_field line)) buffer)
-    (cond (is_byte (code "W") (field_of line)) (called (write_of (behind_field line)) buffer)
+    (cond (is_name (text "L") (field_of line)) (read_list (drop 1 (behind_field line)) buffer)
+    (cond (is_name (text "W") (field_of line)) (called (write_of (behind_field line)) buffer)
     (cond (is_name (text "LONG") (field_of line)) (read_in (λ p. Long p.0 p.1) (read_asked (drop 1 (behind_field line)) buffer))
     (read_in (λ p. Parse p.0 p.1) (read_asked line buffer)))))
 

@@ -2,6 +2,7 @@
 -- Assumes nothing.
 use Rattle.std.specs.Prelude.{ℕ, Bool, List, [], ◌∷◌, length, drop}
 use Rattle.std.specs.Str.{bytes_eq}
+-- std has no name for the code of a character.
 use Prim.Native.Char.{code}
 use Rattle.felica_text.specs.Text.{before}
 

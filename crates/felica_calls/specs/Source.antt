@@ -1,8 +1,8 @@
 -- What the bytes of a call are: F is a frame, P a payload, S with a command code the payload of that secure code.
 -- Assumes nothing.
 use Rattle.std.specs.Prelude.{ℕ, cond, List, [], ◌∷◌, length, eqb, Result, Ok, Err}
-use Prim.Native.Char.{code}
-use Rattle.felica_calls.specs.Field.{field_of, behind_field, next_field, behind_next, is_byte}
+use Rattle.felica_text.specs.Text.{text}
+use Rattle.felica_calls.specs.Field.{field_of, behind_field, next_field, behind_next, is_name}
 use Rattle.felica_calls.specs.Read.{◌>>=◌}
 use Rattle.felica_calls.specs.Bytes.{all_digits, byte_of}
 use Rattle.felica_calls.specs.declared.fault.Fault.{Fault}
@@ -21,9 +21,9 @@ read_command_code (d ∷ e ∷ f ∷ ds) = Err CodeSize
 unfoldable pub read_source : List ℕ → Result Source Fault
 read_source s =
     cond (eqb (length s) 0) (Err MissingField)
-    (cond (is_byte (code "F") (field_of s)) (Ok Frame)
-    (cond (is_byte (code "P") (field_of s)) (Ok Payload)
-    (cond (is_byte (code "S") (field_of s)) (read_command_code (next_field (behind_field s)) >>= λ c. Ok (Secure c))
+    (cond (is_name (text "F") (field_of s)) (Ok Frame)
+    (cond (is_name (text "P") (field_of s)) (Ok Payload)
+    (cond (is_name (text "S") (field_of s)) (read_command_code (next_field (behind_field s)) >>= λ c. Ok (Secure c))
     (Err UnknownCall))))
 
 -- what follows the name, and the code of a secure payload

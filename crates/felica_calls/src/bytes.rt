@@ -7,16 +7,14 @@ ghost use Rattle.felica_calls.specs.Bytes.{decoded, read_last, read_bytes, bytes
 use crate::fault::Fault;
 use crate::field::behind_space;
 use felica_put::Output;
-use felica_text::find::find;
 use felica_text::hex::digit_value;
 
 // How many there are in the last field, with the space before it.
-#[tactic(auto, unfolding(crate::specs::Bytes::read_last))]
 pub(crate) fn read_last(rest: &[u8], bytes: &mut [u8]) -> Result<usize, Fault>
     ensures { decoded result bytes.new ≡ read_last rest.now bytes.old }
 {
     let field = behind_space(rest);
-    if find(field, b' ') < field.len() {
+    if field.contains(&b' ') {
         return Err(Fault::ExtraField);
     }
     read_bytes(field, bytes)

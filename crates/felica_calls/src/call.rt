@@ -10,7 +10,7 @@ use crate::sizes::{Sizes, read_sizes};
 use crate::source::{Source, behind_source, read_source};
 use crate::write::read_write;
 
-// What a line calls for.
+// What a line calls for. Its bytes are counted and not held: a slice has an address, which the equation of `read_call` could not name.
 #[derive(Clone, Copy, Debug, PartialEq, Eq)]
 pub enum Call {
     // To parse so many bytes.
@@ -30,20 +30,19 @@ pub fn read_call(line: &[u8], bytes: &mut [u8]) -> Result<Call, Fault>
     if line.is_empty() {
         return Err(Fault::EmptyLine);
     }
-    let name = field_of(line);
     let rest = behind_field(line);
-    if name == b"L".as_slice() {
-        return read_list(behind_space(rest), bytes);
+    match field_of(line) {
+        b"L" => read_list(behind_space(rest), bytes),
+        b"W" => read_write(rest),
+        b"LONG" => {
+            let (source, count) = read_asked(behind_space(rest), bytes)?;
+            Ok(Call::Long(source, count))
+        }
+        _ => {
+            let (source, count) = read_asked(line, bytes)?;
+            Ok(Call::Parse(source, count))
+        }
     }
-    if name == b"W".as_slice() {
-        return read_write(rest);
-    }
-    if name == b"LONG".as_slice() {
-        let (source, count) = read_asked(behind_space(rest), bytes)?;
-        return Ok(Call::Long(source, count));
-    }
-    let (source, count) = read_asked(line, bytes)?;
-    Ok(Call::Parse(source, count))
 }
 
 // What is asked about: a source, and its bytes as the last field.

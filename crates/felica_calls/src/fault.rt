@@ -48,6 +48,7 @@ impl Fault {
     }
 }
 
+// Not a `Display`: it would write through `fmt::Write`, which may answer an `Err` and says what it wrote only where it does not.
 pub fn put_fault(out: &mut Output<u8>, fault: Fault)
     ensures { Puts out.old out.new (fault_text fault) }
 {

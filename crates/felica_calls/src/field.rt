@@ -2,10 +2,10 @@
 ghost use Rattle.std.specs.Prelude.{◌≡◌, drop};
 ghost use Rattle.felica_calls.specs.Field.{field_of, behind_field, next_field, behind_next};
 
-use felica_text::find::find;
+use felica_text::find::before;
 
 // A walk along the fields: nothing is left, or the space before the next one.
-#[derive(Clone, Copy)]
+#[derive(Clone, Copy, Debug, PartialEq, Eq)]
 pub(crate) struct Fields<'a> {
     pub(crate) rest: &'a [u8],
 }
@@ -22,19 +22,18 @@ impl<'a> Fields<'a> {
 }
 
 // The first field.
-#[tactic(auto, using(crate::proofs::Reading::before_within, crate::proofs::Reading::take_before))]
 pub fn field_of(text: &[u8]) -> &[u8]
     ensures { result.now ≡ field_of text.now }
 {
-    &text[..find(text, b' ')]
+    before(text, b' ')
 }
 
 // What follows the first field: nothing, or a space and the next field.
-#[tactic(auto, using(crate::proofs::Reading::before_within))]
+#[tactic(auto, using(felica_text::proofs::Before::before_within))]
 pub(crate) fn behind_field(text: &[u8]) -> &[u8]
     ensures { result.now ≡ behind_field text.now }
 {
-    &text[find(text, b' ')..]
+    &text[field_of(text).len()..]
 }
 
 pub(crate) fn behind_space(text: &[u8]) -> &[u8]

@@ -17,7 +17,7 @@ pub(crate) fn read_number(field: &[u8], most: usize) -> Result<usize, Fault>
     }
     let mut value = 0;
     for &byte in field {
-        let digit = (byte - b'0') as usize;
+        let digit = usize::from(byte - b'0');
         if most < digit || (most - digit) / 10 < value {
             return Err(Fault::BufferTooLong);
         }

@@ -21,18 +21,15 @@ pub(crate) fn read_source(text: &[u8]) -> Result<Source, Fault>
     if text.is_empty() {
         return Err(Fault::MissingField);
     }
-    let name = field_of(text);
-    if name == b"F".as_slice() {
-        return Ok(Source::Frame);
+    match field_of(text) {
+        b"F" => Ok(Source::Frame),
+        b"P" => Ok(Source::Payload),
+        b"S" => {
+            let code = read_code(next_field(behind_field(text)))?;
+            Ok(Source::Secure(code))
+        }
+        _ => Err(Fault::UnknownCall),
     }
-    if name == b"P".as_slice() {
-        return Ok(Source::Payload);
-    }
-    if name == b"S".as_slice() {
-        let code = read_code(next_field(behind_field(text)))?;
-        return Ok(Source::Secure(code));
-    }
-    Err(Fault::UnknownCall)
 }
 
 // A command code in its two digits.

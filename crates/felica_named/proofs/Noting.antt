@@ -7,7 +7,7 @@ use Rattle.std.proofs.lemmas.List.{length-take-le}
 use Rattle.felica_text.specs.Text.{before}
 use Rattle.felica_calls.specs.Read.{◌>>=◌}
 use Rattle.felica_calls.specs.declared.fault.Fault.{Fault}
-use Rattle.felica_calls.proofs.Reading.{before_within}
+use Rattle.felica_text.proofs.Before.{before_within}
 use Rattle.felica_named.specs.Notes.{Starts, field_at, note, note_from}
 
 -- a field is within the text, and has at least the space

@@ -6,6 +6,7 @@ ghost use Rattle.felica_named.specs.Named.{starts_of};
 use crate::form::Form;
 use crate::names::{NAMES, names, place_in};
 use felica_calls::fault::Fault;
+use felica_calls::field::field_of;
 use felica_text::find::find;
 
 // The fields of a writer's call: their text, and at the number of each name where its value begins there.
@@ -38,7 +39,7 @@ fn field_at(text: &[u8], at: usize) -> &[u8]
     ensures { result.now ≡ field_at text.now at }
 {
     let name = at + 1;
-    let end = name + find(&text[name..], b' ');
+    let end = name + field_of(&text[name..]).len();
     &text[at..end]
 }
 
@@ -47,10 +48,9 @@ fn note(table: &[u8], field: &[u8], at: usize, starts: &mut [Option<usize>]) -> 
     requires { at + length field.now < 2 ^ 64 }
     ensures { noted result starts.new ≡ note table.now field.now at starts.old }
 {
-    let name_end = find(field, b'=');
-    if field.len() <= name_end {
+    let Some(name_end) = find(field, b'=') else {
         return Err(Fault::UnknownField);
-    }
+    };
     let behind = name_end + 1;
     let value = &field[behind..];
     let Some(place) = place_in(table, &field[..behind]) else {

@@ -1,12 +1,15 @@
 -- What is put into a buffer, piece after piece.
 -- Assumes nothing.
 use Rattle.std.proofs.Common.{ℕ, suc, ◌+◌, ◌-◌, ◌≤◌, ◌<◌, ◌≡◌, refl, sym, ap, ◌∙◌, Bool, true, false, List, [], ◌∷◌, ◌++◌, zero-add, add-one, arith}
-use Rattle.std.proofs.Common.{length, get_or, set, take, drop, length-append, length-drop}
+use Rattle.std.proofs.Common.{length, set, take, drop, length-append, length-drop}
 use Rattle.std.proofs.Math.Dec.{ltb}
-use Rattle.std.proofs.Math.Seq.{drop-cons, take-append_seam}
+use Rattle.std.proofs.Math.Seq.{take-append_seam}
 use Rattle.std.proofs.lemmas.Bool.{lt-ltb, le-ltb, ltb-true}
 use Rattle.std.proofs.lemmas.List.{drop-set-lt, length-set, length-take-le, take_all, take-append-drop}
 use Rattle.std.proofs.lemmas.List.Edits.{sets, sets-eq}
+-- one more entry of a list
+pub use Rattle.std.proofs.lemmas.List.{drop_more as drop_next}
+-- std has no name for it.
 use borrow.Rule.Slice.PartMut.{put_mid}
 use Rattle.std.proofs.lemmas.Slice.{put_mid-paste}
 use Rattle.std.proofs.Common.{min}
@@ -26,10 +29,6 @@ put_then b vs ws first second = second ∙ ap (λ x. put x ws) first ∙ sym (pu
 pub put_none : {A : Type 0} (b : BufferOf A) (vs : List A) {all : BufferOf A} → vs ≡ [] → put b vs ≡ all → b ≡ all
 unfolding put
 put_none b vs n e = sym (ap (put b) n) ∙ e
-
--- one more entry of a list
-pub drop_next {ℓ} : {A : Type ℓ} (l : List A) (i : ℕ) (d : A) → i < length l → drop i l ≡ get_or l i d ∷ drop (i + 1) l
-drop_next l i d h = drop-cons l i d h ∙ ap (λ (k : ℕ). get_or l i d ∷ drop k l) (sym (add-one i))
 
 -- a list from a place on, as a slice is cut
 pub take_rest : {A : Type 0} (n : ℕ) (s : List A) → take (length s - n) (drop n s) ≡ drop n s

@@ -1,10 +1,8 @@
 -- A list put entry by entry, as a loop goes: what f gives of an entry is what its turn puts.
 -- Assumes nothing.
-use Rattle.std.proofs.Common.{ℕ, ◌+◌, ◌≤◌, ◌<◌, ◌≡◌, sym, ap, ◌∙◌, List, [], ◌∷◌, ◌++◌, length, get_or, take, add-one, append-nil}
+use Rattle.std.proofs.Common.{ℕ, ◌+◌, ◌≤◌, ◌<◌, ◌≡◌, sym, ap, ◌∙◌, List, [], ◌++◌, length, get_or, take}
 use Rattle.std.specs.List.{flat_map}
-use Rattle.std.proofs.Math.Seq.{take-suc}
-use Rattle.std.proofs.lemmas.Grind.{flat_map-append}
-use Rattle.std.proofs.lemmas.List.{take_all}
+use Rattle.std.proofs.lemmas.List.{take_all, take_more, flat_map_more}
 use Rattle.felica_put.specs.Output.{Puts}
 use Rattle.felica_put.specs.declared.Output.{Output}
 use Rattle.felica_put.proofs.Laws.{puts_then, puts_nothing}
@@ -15,9 +13,7 @@ puts_same p same = rw same at p
 
 module _ {A B : Type 0} (f : A → List B) (s : List A) (i : ℕ) where
   one_more : (d : A) → i < length s → flat_map f (take (i + 1) s) ≡ flat_map f (take i s) ++ f (get_or s i d)
-  one_more d h =
-      ap (λ n. flat_map f (take n s)) (add-one i) ∙ ap (flat_map f) (take-suc s i d h) ∙ flat_map-append f (take i s) (get_or s i d ∷ [])
-      ∙ ap (λ l. flat_map f (take i s) ++ l) (append-nil (f (get_or s i d)))
+  one_more d h = ap (flat_map f) (take_more s i d h) ∙ sym (flat_map_more f [] (take i s) (get_or s i d))
 
   pub puts_turn : (d : A) {a b c : Output B} → i < length s → Puts a b (flat_map f (take i s)) → Puts b c (f (get_or s i d)) → Puts a c (flat_map f (take (i + 1) s))
   puts_turn d h before turn = puts_same (puts_then before turn) (sym (one_more d h))

@@ -1,12 +1,14 @@
--- The bytes before the first one that equals a given byte are as many as the place at which it stands.
+-- The bytes before the first one that equals a given byte are the first ones, as many as the place at which it stands.
 -- Assumes nothing.
-use Rattle.std.proofs.Common.{ℕ, ◌+◌, ◌≡◌, ◌==◌, ◌≤◌, refl, Bool, true, false, cond, not, List, [], ◌∷◌, length, Some, None, position, unwrap_or, arith}
-use Rattle.std.specs.List.{position_or_len}
-use Rattle.std.proofs.Math.Dec.{ltb}
-use Rattle.std.proofs.lemmas.Bool.{ltb-false}
+use Rattle.std.proofs.Common.{ℕ, suc, ltb, ◌||◌, ◌+◌, ◌≡◌, ◌==◌, ◌≤◌, refl, sym, ap, ◌∙◌, Bool, true, false, cond, List, [], ◌∷◌, length, take, length-take, eqb, position, arith}
+use Rattle.std.specs.List.{position_or_len, list_any}
+use Rattle.std.proofs.lemmas.Bool.Decides.{nat_tests}
+use Rattle.std.proofs.lemmas.List.{take_all}
 use Rattle.std.proofs.lemmas.List.Recursion.{is_position_or_len}
-use Rattle.std.proofs.lemmas.List.Sums.{prefix_len-le-length}
-use Rattle.felica_text.specs.Text.{before}
+use Rattle.felica_text.specs.Text.{before, place_of}
+
+both : (m n : ℕ) → ltb m n ≡ ltb (suc m) (suc n)
+both m n = grind (arith, nat_tests)
 
 module _ (b : ℕ) where
   count : (s : List ℕ) → length (before b s) ≡ position_or_len (λ x. x == b) s
@@ -17,12 +19,33 @@ module _ (b : ℕ) where
       turn x xs true = refl
       turn x xs false = omega arith
 
-  pub before_found : (s : List ℕ) → unwrap_or (position (λ x. x == b) s) (length s) ≡ length (before b s)
-  before_found s = rw (count s) (place (position_or_len (λ x. x == b) s) (prefix_len-le-length (λ x. not (x == b)) s))
+  pub place_found : (s : List ℕ) → position (λ x. x == b) s ≡ place_of b s
+  place_found s = rw (count s) refl
+
+  turn_taken : (x : ℕ) (xs : List ℕ) (t : Bool) → eqb x b ≡ t → take (length (before b xs)) xs ≡ before b xs → take (length (before b (x ∷ xs))) (x ∷ xs) ≡ before b (x ∷ xs)
+  unfolding before
+  turn_taken x xs true e rest = rw e
+  turn_taken x xs false e rest = rw e (ap (λ l. x ∷ l) rest)
+
+  pub take_before : (s : List ℕ) → take (length (before b s)) s ≡ before b s
+  unfolding before
+  take_before [] = refl
+  take_before (x ∷ xs) = turn_taken x xs (eqb x b) refl (take_before xs)
+
+  pub before_within : (s : List ℕ) → length (before b s) ≤ length s
+  before_within s = omega (arith, length-take (length (before b s)) s, ap length (take_before s))
+
+  -- all of them where no such byte stands
+  pub before_all : (s : List ℕ) → length s ≤ length (before b s) → before b s ≡ s
+  before_all s h = sym (take_before s) ∙ take_all (length (before b s)) s h
+
+  -- whether there is one
+  pub before_some : (s : List ℕ) → list_any (λ x. x == b) s ≡ ltb (length (before b s)) (length s)
+  unfolding before
+  before_some [] = refl
+  before_some (x ∷ xs) = turn (x == b) (before_some xs)
     where
-      place : (n : ℕ) → n ≤ length s → unwrap_or (cond (ltb n (length s)) (Some n) None) (length s) ≡ n
-      place n h = turn (ltb n (length s)) refl
-        where
-          turn : (within : Bool) → ltb n (length s) ≡ within → unwrap_or (cond within (Some n) None) (length s) ≡ n
-          turn true e = refl
-          turn false e = let over = ltb-false n (length s) e in omega arith
+      turn : (here : Bool) → list_any (λ y. y == b) xs ≡ ltb (length (before b xs)) (length xs)
+          → (here || list_any (λ y. y == b) xs) ≡ ltb (length (cond here [] (x ∷ before b xs))) (suc (length xs))
+      turn true e = grind (arith, nat_tests)
+      turn false e = e ∙ both (length (before b xs)) (length xs)

@@ -1,14 +1,9 @@
 -- Text as the bytes of its characters, and numbers as text.
 -- Assumes nothing.
-use Rattle.std.specs.Prelude.{ℕ, zero, suc, ◌+◌, ◌-◌, ◌/◌, ◌%◌, cond, List, [], ◌∷◌, ◌++◌, ltb, leb, eqb, Option, Some, None}
+use Rattle.std.specs.Prelude.{ℕ, zero, suc, ◌+◌, ◌-◌, ◌/◌, ◌%◌, cond, List, [], ◌∷◌, ◌++◌, length, ltb, leb, eqb, Option, Some, None}
 use Rattle.std.specs.List.{flat_map}
-use Prim.Native.Char.{code}
-use Prim.Native.String.{String, [] as no_text, ◌∷◌ as ◌then◌}
-
 -- the codes of a text's characters
-abbrev pub text : String → List ℕ
-text no_text = []
-text (c then s) = code c ∷ text s
+pub use Rattle.std.specs.Prelude.{codes as text}
 
 -- Hexadecimal in capitals: the digit of a number below 16, and the number of a digit. 48 to 57 are the codes of 0 to 9, 65 to 70 of A to F.
 abbrev pub digit_text : ℕ → ℕ
@@ -47,7 +42,7 @@ module _ {A : Type 0} (entry : A → List ℕ) where
   parted [] = text "-"
   parted (a ∷ rest) = entry a ++ behind_commas rest
 
--- a number's decimal digits, from the first; the count is at least the number
+-- a number's decimal digits, from the first; the count is at least the number. std's `decimal` has at most 64 digits.
 unfoldable pub decimal_digits : ℕ → ℕ → List ℕ
 decimal_digits zero n = (48 + n) ∷ []
 decimal_digits (suc k) n = cond (ltb n 10) ((48 + n) ∷ []) (decimal_digits k (n / 10) ++ ((48 + n % 10) ∷ []))
@@ -59,3 +54,7 @@ decimal_text n = decimal_digits n n
 unfoldable pub before : ℕ → List ℕ → List ℕ
 before b [] = []
 before b (x ∷ xs) = cond (eqb x b) [] (x ∷ before b xs)
+
+-- how many those are, and so the place of that byte, where there is one
+abbrev pub place_of : ℕ → List ℕ → Option ℕ
+place_of b s = cond (ltb (length (before b s)) (length s)) (Some (length (before b s))) None

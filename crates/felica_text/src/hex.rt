@@ -2,7 +2,7 @@
 ghost use Rattle.std.specs.Prelude.{◌≡◌, ◌%◌};
 ghost use Rattle.felica_text.specs.Text.{digit_text, digit_of};
 
-// The digit of the low four bits.
+// The digit of the low four bits. `char::from_digit` writes small letters, and takes and gives what is no byte.
 pub fn hex_digit(value: u8) -> u8
     ensures { result ≡ digit_text (value % 16) }
 {
@@ -14,7 +14,7 @@ pub fn hex_digit(value: u8) -> u8
     }
 }
 
-// The number of a digit, if the byte is one.
+// The number of a digit, if the byte is one. `char::to_digit` takes small letters too, which would have to be refused first.
 pub fn digit_value(digit: u8) -> Option<u8>
     ensures { result ≡ digit_of digit }
 {

@@ -18,8 +18,9 @@ pub fn put_hex_byte(out: &mut Output<u8>, byte: u8)
 pub fn put_hex_word(out: &mut Output<u8>, word: u16)
     ensures { Puts out.old out.new (word_text word) }
 {
-    put_hex_byte(out, (word / 256) as u8);
-    put_hex_byte(out, (word % 256) as u8);
+    let [high, low] = word.to_be_bytes();
+    put_hex_byte(out, high);
+    put_hex_byte(out, low);
 }
 
 // Bytes in two digits each, and `-` for none.

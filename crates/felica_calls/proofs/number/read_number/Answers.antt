@@ -7,8 +7,8 @@ use Rattle.felica_calls.proofs.Decimal.{digit_is, decimal_next, decimal_end, num
 use Rattle.felica_calls.proofs.number.read_number.Goals as goal
 use Rattle.felica_calls.proofs.number.read_number.Goals.{then-most-digit-via-then-most-digit, then-most-digit-via-else-most-digit+then-most-digit-2}
 
-pub overflow_sub-digit : goal.overflow_sub-digit
-overflow_sub-digit c = (digit_is _ _ c.loop-byte-test.true c.loop-byte.invariant.digits).0
+pub overflow_sub-byte : goal.overflow_sub-byte
+overflow_sub-byte c = (digit_is _ _ c.loop-byte-test.true c.loop-byte.invariant.digits).0
 
 pub returns-then-most-digit : goal.returns-then-most-digit
 returns-then-most-digit c =
@@ -23,7 +23,7 @@ pub loop-byte-preserved : goal.loop-byte-preserved
 loop-byte-preserved c = let l = c.loop-byte in record {
   at_most = omega arith;
   digits = (digit_is _ _ c.loop-byte-test.true l.invariant.digits).2;
-  number = sym (decimal_next _ _ c.loop-byte-test.true _) ∙ l.invariant.number;
+  number = rw c.from-digit.ensures (sym (decimal_next _ _ c.loop-byte-test.true _) ∙ l.invariant.number);
 }
 
 pub returns : goal.returns

@@ -1,13 +1,13 @@
 -- `felica_text::find::find` meets its contract.
 -- Assumes nothing.
-use Rattle.std.proofs.Common.{rules, tests, ap, ◌∙◌, length, unwrap_or, ◌==◌}
+use Rattle.std.proofs.Common.{rules, tests, ◌∙◌, ◌==◌}
 use Rattle.std.proofs.lemmas.Iterator.{YieldsList-from_slice}
 use Rattle.std.proofs.lemmas.Iterator.Search.{position_from_yields_List}
-use Rattle.felica_text.proofs.Before.{before_found}
+use Rattle.felica_text.proofs.Before.{place_found}
 use Rattle.felica_text.proofs.find.find.Goals as goal
 
 pub returns : goal.returns
 returns c =
     let a = c.args in
-    let place = position_from_yields_List (λ x. x == a.byte) _ _ c.position.result c.position.ensures.ran (YieldsList-from_slice a.text.now cc) (λ x b q k. search (rules, tests)) in
-    c.unwrap_or.ensures ∙ ap (λ o. unwrap_or o (length a.text.now)) place ∙ before_found a.byte a.text.now
+    position_from_yields_List (λ x. x == a.byte) _ _ _ c.position.ensures.ran (YieldsList-from_slice a.text.now cc) (λ x b q k. search (rules, tests))
+    ∙ place_found a.byte a.text.now
