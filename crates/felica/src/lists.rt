@@ -25,31 +25,11 @@ pub(crate) fn answer_list(source: Source, bytes: &[u8], sizes: Sizes, out: &mut 
     let mut numbers = [0u16; MAX_LENT];
     let mut places = [0u8; MAX_LENT];
     let mut modes = [0u8; MAX_LENT];
-    answer_from(
-        source,
-        bytes,
-        &mut first[..sizes.first],
-        &mut second[..sizes.second],
-        &mut numbers[..sizes.numbers],
-        &mut places[..sizes.places],
-        &mut modes[..sizes.modes],
-        out,
-    );
-}
-
-// The same, in buffers that are lent.
-fn answer_from(
-    source: Source,
-    bytes: &[u8],
-    first: &mut [u16],
-    second: &mut [u16],
-    numbers: &mut [u16],
-    places: &mut [u8],
-    modes: &mut [u8],
-    out: &mut Output<u8>,
-)
-    ensures { Puts out.old out.new (list_line (listed (reading_of source bytes.now) (buffers first.old second.old numbers.old places.old modes.old)).answer) }
-{
+    let first = &mut first[..sizes.first];
+    let second = &mut second[..sizes.second];
+    let numbers = &mut numbers[..sizes.numbers];
+    let places = &mut places[..sizes.places];
+    let modes = &mut modes[..sizes.modes];
     let mut lent = ListBuffers {
         first,
         second,
@@ -61,6 +41,7 @@ fn answer_from(
     put_listed(out, parsed, first, second, numbers, places, modes);
 }
 
+// This, `parse` and `payload_in` each match on the source: one match for all would take a trait of three methods, with an impl of three for each of these.
 fn list(source: Source, bytes: &[u8], buffers: &mut ListBuffers) -> Result<Parsed, Refusal>
     ensures same_references { SameReferences buffers.old buffers.new }
     ensures listed { ListAccount (payload_in source bytes.now) (body_at source) (reading_of source bytes.now) (held buffers.old) result (held buffers.new) }

@@ -2,16 +2,13 @@
 ghost use Rattle.std.specs.Prelude.{◌≡◌, List, ◌++◌, ℕ};
 ghost use Rattle.felica_command.specs.Types.{node_property_byte, encryption_byte, packet_byte};
 ghost use Rattle.felica_put.specs.Output.{Puts};
-ghost use Rattle.felica_fields.specs.Field.{byte_field, word_field, first_field, second_field, blocks_field, data_field};
+ghost use Rattle.felica_fields.specs.Field.{byte_field, word_field, first_field, second_field, blocks_field, data_field, issue_fields};
 ghost use Rattle.felica_answers.specs.Answer.{row_of, row_text, idm_text};
 
 use felica_command::command::{FelicaStandardCommand as Command, Part};
 use felica_command::types::{NodePropertyType, SetParameterEncryptionType, SetParameterPacketType};
-use felica_fields::field::{
-    put_block_list, put_byte_field, put_challenge_8, put_challenge_16, put_codes_field, put_first,
-    put_idm, put_index, put_issue, put_node, put_package, put_part_field, put_property,
-    put_word_field,
-};
+use felica_fields::field::{bytes_of, put_field};
+use felica_fields::list::{Blocks, Codes};
 use felica_put::Output;
 
 pub(crate) fn put_fields(
@@ -46,7 +43,7 @@ fn put_idm_of(out: &mut Output<u8>, command: Command, idm: [u8; 8])
         | Command::RegisterArea { .. }
         | Command::RegisterService { .. }
         | Command::ChangeSystemBlock => {}
-        _ => put_idm(out, idm),
+        _ => put_field(out, b" idm=", idm.as_slice()),
     }
 }
 
@@ -87,7 +84,11 @@ fn put_blocks_of(out: &mut Output<u8>, payload: &[u8], command: Command)
     match command {
         Command::ReadWithoutEncryption { block_list, .. }
         | Command::Read { block_list }
-        | Command::ReadV2 { block_list } => put_block_list(out, payload, block_list),
+        | Command::ReadV2 { block_list } => put_field(
+            out,
+            b" blocks=",
+            Blocks(payload, block_list),
+        ),
         Command::WriteWithoutEncryption {
             block_list,
             data,
@@ -111,9 +112,9 @@ fn put_fixed_of(out: &mut Output<u8>, command: Command, challenge: [u8; 16])
             request_code,
             time_slots,
         } => put_polling(out, system_code, request_code, time_slots),
-        Command::SearchServiceCode { service_index } => put_index(out, service_index),
+        Command::SearchServiceCode { service_index } => put_field(out, b" index=", service_index),
         Command::Authentication1 { .. } | Command::Authentication2 => {
-            put_challenge_8(out, challenge)
+            put_field(out, b" challenge=", &challenge[..8])
         }
         Command::RequestCodeList {
             parent_node_code,
@@ -123,14 +124,18 @@ fn put_fixed_of(out: &mut Output<u8>, command: Command, challenge: [u8; 16])
             encryption_type,
             packet_type,
         } => put_types(out, encryption_type, packet_type),
-        Command::GetAreaInformation { node_code } => put_node(out, node_code.0),
-        Command::GetContainerProperty { property } => put_property(out, property.index()),
+        Command::GetAreaInformation { node_code } => put_field(out, b" node=", node_code.0),
+        Command::GetContainerProperty { property } => put_field(
+            out,
+            b" property=",
+            property.index(),
+        ),
         Command::Authentication1V2 { .. } | Command::Authentication2V2 => {
-            put_challenge_16(out, challenge)
+            put_field(out, b" challenge=", challenge.as_slice())
         }
         Command::RegisterIssueId { .. } => put_issue(out, challenge),
-        Command::RegisterArea { area_code, .. } => put_node(out, area_code.0),
-        Command::RegisterService { service_code, .. } => put_node(out, service_code.0),
+        Command::RegisterArea { area_code, .. } => put_field(out, b" node=", area_code.0),
+        Command::RegisterService { service_code, .. } => put_field(out, b" node=", service_code.0),
         _ => {}
     }
 }
@@ -142,16 +147,27 @@ fn put_package_of(out: &mut Output<u8>, payload: &[u8], command: Command)
     match command {
         Command::RegisterIssueId { package }
         | Command::RegisterArea { package, .. }
-        | Command::RegisterService { package, .. } => put_package(out, payload, package),
+        | Command::RegisterService { package, .. } => put_field(
+            out,
+            b" package=",
+            bytes_of(payload, package),
+        ),
         _ => {}
     }
+}
+
+// The code list, or the first of two.
+fn put_first(out: &mut Output<u8>, payload: &[u8], list: Part)
+    ensures { Puts out.old out.new (first_field payload.now list) }
+{
+    put_field(out, b" first=", Codes(payload, list));
 }
 
 fn put_areas_and_services(out: &mut Output<u8>, payload: &[u8], areas: Part, services: Part)
     ensures { Puts out.old out.new (first_field payload.now areas ++ second_field payload.now services) }
 {
     put_first(out, payload, areas);
-    put_codes_field(out, b" second=", payload, services);
+    put_field(out, b" second=", Codes(payload, services));
 }
 
 fn put_type_and_nodes(
@@ -162,7 +178,7 @@ fn put_type_and_nodes(
 )
     ensures { Puts out.old out.new (byte_field " type=" (node_property_byte node_property_type) ++ first_field payload.now node_codes) }
 {
-    put_byte_field(out, b" type=", node_property_type.to_byte());
+    put_field(out, b" type=", node_property_type.to_byte());
     put_first(out, payload, node_codes);
 }
 
@@ -174,30 +190,30 @@ fn put_operation_and_nodes(
 )
     ensures { Puts out.old out.new (byte_field " operation=" operation_parameter ++ first_field payload.now nodes) }
 {
-    put_byte_field(out, b" operation=", operation_parameter);
+    put_field(out, b" operation=", operation_parameter);
     put_first(out, payload, nodes);
 }
 
 fn put_blocks_and_data(out: &mut Output<u8>, payload: &[u8], block_list: Part, data: Part)
     ensures { Puts out.old out.new (blocks_field payload.now block_list ++ data_field payload.now «data») }
 {
-    put_block_list(out, payload, block_list);
-    put_part_field(out, b" data=", payload, data);
+    put_field(out, b" blocks=", Blocks(payload, block_list));
+    put_field(out, b" data=", bytes_of(payload, data));
 }
 
 fn put_polling(out: &mut Output<u8>, system_code: u16, request_code: u8, time_slots: u8)
     ensures { Puts out.old out.new (word_field " system=" system_code ++ (byte_field " request=" request_code ++ byte_field " slots=" time_slots)) }
 {
-    put_word_field(out, b" system=", system_code);
-    put_byte_field(out, b" request=", request_code);
-    put_byte_field(out, b" slots=", time_slots);
+    put_field(out, b" system=", system_code);
+    put_field(out, b" request=", request_code);
+    put_field(out, b" slots=", time_slots);
 }
 
 fn put_parent_and_index(out: &mut Output<u8>, parent: u16, index: u16)
     ensures { Puts out.old out.new (word_field " parent=" parent ++ word_field " index=" index) }
 {
-    put_word_field(out, b" parent=", parent);
-    put_index(out, index);
+    put_field(out, b" parent=", parent);
+    put_field(out, b" index=", index);
 }
 
 fn put_types(
@@ -207,6 +223,14 @@ fn put_types(
 )
     ensures { Puts out.old out.new (byte_field " encryption=" (encryption_byte encryption_type) ++ byte_field " packet=" (packet_byte packet_type)) }
 {
-    put_byte_field(out, b" encryption=", encryption_type.to_byte());
-    put_byte_field(out, b" packet=", packet_type.to_byte());
+    put_field(out, b" encryption=", encryption_type.to_byte());
+    put_field(out, b" packet=", packet_type.to_byte());
+}
+
+// The issue id, then the issue parameter.
+fn put_issue(out: &mut Output<u8>, challenge: [u8; 16])
+    ensures { Puts out.old out.new (issue_fields challenge) }
+{
+    put_field(out, b" issue_id=", &challenge[..8]);
+    put_field(out, b" issue_parameter=", &challenge[8..]);
 }

@@ -5,7 +5,7 @@ ghost use Rattle.felica_lists.specs.Lists.{buffers};
 ghost use Rattle.felica_answers.specs.Lists.{listed_text};
 
 use felica_command::command::{Parsed, Refusal};
-use felica_fields::field::{put_nibbles_field, put_words_field};
+use felica_fields::field::{Nibbles, put_field};
 use felica_fields::refusal::put_refusal;
 use felica_put::Output;
 use felica_text::put::put_hex_byte;
@@ -29,11 +29,11 @@ pub fn put_listed(
             let blocks = lists.block_list.count;
             out.put_all(b"OK ");
             put_hex_byte(out, parsed.command.command_code());
-            put_words_field(out, b" first=", front(first, lists.first_codes.count));
-            put_words_field(out, b" second=", front(second, lists.second_codes.count));
-            put_words_field(out, b" numbers=", front(numbers, blocks));
-            put_nibbles_field(out, b" places=", front(places, blocks));
-            put_nibbles_field(out, b" modes=", front(modes, blocks));
+            put_field(out, b" first=", front(first, lists.first_codes.count));
+            put_field(out, b" second=", front(second, lists.second_codes.count));
+            put_field(out, b" numbers=", front(numbers, blocks));
+            put_field(out, b" places=", Nibbles(front(places, blocks)));
+            put_field(out, b" modes=", Nibbles(front(modes, blocks)));
         }
         Err(refusal) => put_refusal(out, refusal),
     }

@@ -23,5 +23,5 @@ fn put_count(out: &mut Output<u8>, long: u8)
     ensures { Puts out.old out.new (long_text long) }
 {
     out.put_all(b"OK longs=");
-    put_decimal(out, long as usize);
+    put_decimal(out, usize::from(long));
 }

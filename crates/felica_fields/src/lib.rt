@@ -3,5 +3,5 @@
 
 mod entry;
 pub mod field;
-mod list;
+pub mod list;
 pub mod refusal;

@@ -6,22 +6,35 @@ ghost use Rattle.felica_put.specs.Output.{Puts};
 ghost use Rattle.felica_fields.specs.Entries.{Entry, element_text, entry_text, texts_of, codes_text, blocks_text};
 
 use crate::entry::{code_at, element_at};
+use crate::field::Value;
 use felica_command::command::Part;
 use felica_command::types::BlockListElement;
 use felica_put::Output;
 use felica_text::hex::hex_digit;
 use felica_text::put::put_hex_word;
 
-pub(crate) fn put_codes(out: &mut Output<u8>, payload: &[u8], list: Part)
-    ensures { Puts out.old out.new (codes_text payload.now list) }
-{
-    put_list(out, payload, list, code_at, put_hex_word);
+// The codes of a list: the payload, and the part of it that they are.
+#[derive(Clone, Copy, Debug, PartialEq, Eq)]
+pub struct Codes<'a>(pub &'a [u8], pub Part);
+
+impl Value for Codes<'_> {
+    ghost text = { λ codes. codes_text codes.0.now codes.1 };
+
+    fn put(self, out: &mut Output<u8>) {
+        put_list(out, self.0, self.1, code_at, put_hex_word);
+    }
 }
 
-pub(crate) fn put_blocks(out: &mut Output<u8>, payload: &[u8], list: Part)
-    ensures { Puts out.old out.new (blocks_text payload.now list) }
-{
-    put_list(out, payload, list, element_at, put_block);
+// The elements of a block list, in the same way.
+#[derive(Clone, Copy, Debug, PartialEq, Eq)]
+pub struct Blocks<'a>(pub &'a [u8], pub Part);
+
+impl Value for Blocks<'_> {
+    ghost text = { λ blocks. blocks_text blocks.0.now blocks.1 };
+
+    fn put(self, out: &mut Output<u8>) {
+        put_list(out, self.0, self.1, element_at, put_block);
+    }
 }
 
 // As many entries as the payload has whole: `entry_at` reads one, and `put_entry` puts it.

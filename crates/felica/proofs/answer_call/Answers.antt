@@ -38,39 +38,21 @@ slice_bounds-answer_list-end-in-Ok-List c = sym (length-take-le _ _ (call_within
 pub answer_list-requires : goal.answer_list-requires
 answer_list-requires c = (call_within _ _ (rw c.in-Ok-List.field-0-is at c.in-Ok-List.ensures)).lends
 
-pub returns-in-Ok-Parse : goal.returns-in-Ok-Parse
-returns-in-Ok-Parse c =
+pub returns-in-Ok-Parse-clause-answered : goal.returns-in-Ok-Parse-clause-answered
+returns-in-Ok-Parse-clause-answered c =
     let told = c.answer_parse.ensures in
-    record {
-      same_reference = told.2.same_reference;
-      answered = answered c.args.line.now _ _ (rw c.in-Ok-Parse.field-0-is at c.in-Ok-Parse.ensures) (told.0, told.1, told.2.held);
-    }
+    answered c.args.line.now _ _ (rw c.in-Ok-Parse.field-0-is at c.in-Ok-Parse.ensures) (told.0, told.1, told.2.held)
 
-pub returns-in-Ok-Long : goal.returns-in-Ok-Long
-returns-in-Ok-Long c =
-    let told = c.answer_long.ensures in
-    record {
-      same_reference = told.same_reference;
-      answered = answered c.args.line.now _ _ (rw c.in-Ok-Long.field-0-is at c.in-Ok-Long.ensures) told.held;
-    }
+pub returns-in-Ok-Long-clause-answered : goal.returns-in-Ok-Long-clause-answered
+returns-in-Ok-Long-clause-answered c = answered c.args.line.now _ _ (rw c.in-Ok-Long.field-0-is at c.in-Ok-Long.ensures) c.answer_long.ensures.held
 
-pub returns-in-Ok-List : goal.returns-in-Ok-List
-returns-in-Ok-List c =
-    let told = c.answer_list.ensures in
-    record {
-      same_reference = told.same_reference;
-      answered = answered c.args.line.now _ _ (rw c.in-Ok-List.field-0-is at c.in-Ok-List.ensures) told.held;
-    }
+pub returns-in-Ok-List-clause-answered : goal.returns-in-Ok-List-clause-answered
+returns-in-Ok-List-clause-answered c = answered c.args.line.now _ _ (rw c.in-Ok-List.field-0-is at c.in-Ok-List.ensures) c.answer_list.ensures.held
 
-pub returns-in-Ok-Write : goal.returns-in-Ok-Write
-returns-in-Ok-Write c =
+pub returns-in-Ok-Write-clause-answered : goal.returns-in-Ok-Write-clause-answered
+returns-in-Ok-Write-clause-answered c =
     let told = rw c.behind_code.ensures at c.answer_write.ensures in
-    record {
-      same_reference = told.same_reference;
-      answered = answered c.args.line.now _ _ (rw c.in-Ok-Write.field-0-is at c.in-Ok-Write.ensures) told.held;
-    }
+    answered c.args.line.now _ _ (rw c.in-Ok-Write.field-0-is at c.in-Ok-Write.ensures) told.held
 
-pub returns-in-Err : goal.returns-in-Err
-returns-in-Err c =
-    let told = c.put_fault.ensures in
-    record { same_reference = told.same_reference; answered = answered c.args.line.now _ _ c.in-Err.ensures told.held }
+pub returns-in-Err-clause-answered : goal.returns-in-Err-clause-answered
+returns-in-Err-clause-answered c = answered c.args.line.now _ _ c.in-Err.ensures c.put_fault.ensures.held

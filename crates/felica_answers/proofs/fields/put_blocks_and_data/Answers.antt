@@ -4,4 +4,4 @@ use Rattle.felica_put.proofs.Laws.{puts_then}
 use Rattle.felica_answers.proofs.fields.put_blocks_and_data.Goals as goal
 
 pub returns : goal.returns
-returns c = puts_then c.put_block_list.ensures c.put_part_field.ensures
+returns c = puts_then c.put_field.ensures (rw c.bytes_of.ensures at c.put_field-2.ensures)

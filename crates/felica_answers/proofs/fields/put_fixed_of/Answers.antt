@@ -6,12 +6,13 @@ use Rattle.felica_answers.proofs.fields.put_fixed_of.Goals as goal
 
 pub returns-in-GetContainerProperty : goal.returns-in-GetContainerProperty
 unfolding row_of
-returns-in-GetContainerProperty c = λ s. rw c.in-GetContainerProperty.is (rw c.index.ensures at c.put_property.ensures)
+returns-in-GetContainerProperty c = λ s. rw c.in-GetContainerProperty.is (rw c.index.ensures at c.put_field-in-GetContainerProperty.ensures)
 
 pub returns-in-Authentication1V2 : goal.returns-in-Authentication1V2
 unfolding row_of
 returns-in-Authentication1V2 c =
-    λ s. elim c.in-Authentication1V2.is [ inl first ↦ rw first.2 c.put_challenge_16.ensures | inr second ↦ rw second c.put_challenge_16.ensures ]
+    let puts = rw c.as_slice.ensures at c.put_field-in-Authentication1V2.ensures in
+    λ s. elim c.in-Authentication1V2.is [ inl first ↦ rw first.2 puts | inr second ↦ rw second puts ]
 
 pub returns-in-RegisterIssueId : goal.returns-in-RegisterIssueId
 unfolding row_of
@@ -19,8 +20,8 @@ returns-in-RegisterIssueId c = λ s. rw c.in-RegisterIssueId.is c.put_issue.ensu
 
 pub returns-in-RegisterArea : goal.returns-in-RegisterArea
 unfolding row_of
-returns-in-RegisterArea c = λ s. rw c.in-RegisterArea.is c.put_node-in-RegisterArea.ensures
+returns-in-RegisterArea c = λ s. rw c.in-RegisterArea.is c.put_field-in-RegisterArea.ensures
 
 pub returns-in-RegisterService : goal.returns-in-RegisterService
 unfolding row_of
-returns-in-RegisterService c = λ s. rw c.in-RegisterService.is c.put_node-in-RegisterService.ensures
+returns-in-RegisterService c = λ s. rw c.in-RegisterService.is c.put_field-in-RegisterService.ensures

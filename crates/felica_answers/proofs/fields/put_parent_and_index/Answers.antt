@@ -4,4 +4,4 @@ use Rattle.felica_put.proofs.Laws.{puts_then}
 use Rattle.felica_answers.proofs.fields.put_parent_and_index.Goals as goal
 
 pub returns : goal.returns
-returns c = puts_then c.put_word_field.ensures c.put_index.ensures
+returns c = puts_then c.put_field.ensures c.put_field-2.ensures

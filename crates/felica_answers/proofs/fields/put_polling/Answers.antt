@@ -4,4 +4,4 @@ use Rattle.felica_put.proofs.Laws.{puts_then}
 use Rattle.felica_answers.proofs.fields.put_polling.Goals as goal
 
 pub returns : goal.returns
-returns c = puts_then c.put_word_field.ensures (puts_then c.put_byte_field.ensures c.put_byte_field-2.ensures)
+returns c = puts_then c.put_field.ensures (puts_then c.put_field-2.ensures c.put_field-3.ensures)

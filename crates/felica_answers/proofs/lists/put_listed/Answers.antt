@@ -12,9 +12,9 @@ returns-in-Ok c =
     puts_same
     (puts_then c.put_all.ensures
     (puts_then c.put_hex_byte.ensures
-    (puts_then c.put_words_field.ensures
-    (puts_then c.put_words_field-in-Ok.ensures
-    (puts_then c.put_words_field-in-Ok-2.ensures (puts_then c.put_nibbles_field.ensures c.put_nibbles_field-in-Ok.ensures))))))
+    (puts_then c.put_field.ensures
+    (puts_then c.put_field-in-Ok.ensures
+    (puts_then c.put_field-in-Ok-2.ensures (puts_then c.put_field-in-Ok-3.ensures c.put_field-in-Ok-4.ensures))))))
     (command_line _ _ c.in-Ok.is c.lists-lists.ensures c.command_code.ensures c.front.ensures c.front-in-Ok.ensures c.front-in-Ok-2.ensures
     c.front-in-Ok-3.ensures c.front-in-Ok-4.ensures)
 

@@ -4,4 +4,4 @@ use Rattle.felica_put.proofs.Laws.{puts_then}
 use Rattle.felica_answers.proofs.long.put_count.Goals as goal
 
 pub returns : goal.returns
-returns c = puts_then c.put_all.ensures c.put_decimal.ensures
+returns c = puts_then c.put_all.ensures (rw c.from.ensures at c.put_decimal.ensures)

@@ -3,7 +3,7 @@
 use Rattle.std.proofs.Common.{ap, arith, ◌≡◌, ◌-◌, ◌+◌}
 use Rattle.felica_text.specs.Text.{behind_commas, parted}
 use Rattle.felica_put.proofs.Laws.{puts_then}
-use Rattle.felica_put.proofs.Lists.{leads_start, leads_turn, leads_end}
+use Rattle.felica_put.proofs.Lists.{leads_turn, leads_end}
 use Rattle.felica_fields.proofs.Entries.{texts_next, texts_end, texts_none}
 use Rattle.felica_fields.proofs.list.put_list.Goals as goal
 
@@ -17,9 +17,6 @@ returns-in_default g c =
     let reads = c.requires.1.1.1.1.1.0 in
     let e = rw c.in_default.is at (reads _ _ _ c.entry_at.ensures) in
     rw (texts_end g.entry.read _ c.args.list.count e) c.put-in_default.ensures
-
-pub loop-init : goal.loop-init
-loop-init g c = leads_start
 
 pub returns-in_default-entry_at : goal.returns-in_default-entry_at
 unfolding parted

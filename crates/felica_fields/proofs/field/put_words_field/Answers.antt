@@ -1,7 +1,0 @@
--- `felica_fields::field::put_words_field` meets its contract: the name, then the value.
--- Assumes nothing.
-use Rattle.felica_put.proofs.Laws.{puts_then}
-use Rattle.felica_fields.proofs.field.put_words_field.Goals as goal
-
-pub returns : goal.returns
-returns c = puts_then c.put_all.ensures c.put_words.ensures
