@@ -7,7 +7,6 @@ ghost use Rattle.felica_line.specs.Line.{mark_text, marks_text, mark_field, acce
 
 use felica_command::command::Part;
 use felica_command::lists::Lists;
-use felica_cursor::cursor::word_of;
 use felica_put::Output;
 use felica_text::put::{put_decimal, put_hex_byte};
 
@@ -23,7 +22,7 @@ pub(crate) fn put_accepted(out: &mut Output<u8>, code: u8, payload: &[u8], lists
     out.put(b' ');
     put_decimal(out, lists.block_list.count);
     out.put(b' ');
-    put_decimal(out, long as usize);
+    put_decimal(out, usize::from(long));
     out.put(b' ');
     put_mark_field(out, payload, lists.first_codes, lists.second_codes);
 }
@@ -44,9 +43,8 @@ fn put_marks(out: &mut Output<u8>, payload: &[u8], list: Part)
     requires { CodesInside payload.now list }
     ensures { Puts out.old out.new (marks_text (codes_at payload.now list)) }
 {
-    for i in 0..list.count {
-        let at = list.start + 2 * i;
-        out.put(mark_of(word_of(payload[at], payload[at + 1])));
+    for code in &payload[list.start..].as_chunks::<2>().0[..list.count] {
+        out.put(mark_of(u16::from_le_bytes(*code)));
     }
 }
 

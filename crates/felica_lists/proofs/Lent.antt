@@ -1,7 +1,7 @@
 -- What five lent buffers hold, each for itself.
 -- Assumes nothing.
 use Rattle.std.proofs.Common.{ℕ, List, ◌≡◌}
-use Rattle.felica_lists.specs.Lists.{Buffers, buffers}
+use Rattle.felica_lists.specs.Lists.{buffers}
 use Rattle.felica_lists.specs.Lent.{held}
 use Rattle.felica_lists.specs.declared.buffers.ListBuffers.{ListBuffers}
 

@@ -9,7 +9,7 @@ ghost use Rattle.felica_lists.specs.Lent.{held, SameReferences};
 use crate::buffers::ListBuffers;
 use felica_command::command::Part;
 use felica_command::lists::Lists;
-use felica_cursor::cursor::{Cursor, word_of};
+use felica_cursor::cursor::Cursor;
 use felica_format::error::Reason;
 
 // Writes all lists, or nothing where a buffer is shorter than its list. So every buffer is measured before one is written.
@@ -47,9 +47,9 @@ fn fill_codes(payload: &[u8], list: Part, out: &mut [u16])
     requires { CodesInside payload.now list × (list.count ≤ length out.old) }
     ensures { out.new ≡ front (codes_at payload.now list) out.old }
 {
-    for i in 0..list.count {
-        let at = list.start + 2 * i;
-        out[i] = word_of(payload[at], payload[at + 1]);
+    let codes = &payload[list.start..].as_chunks::<2>().0[..list.count];
+    for (i, code) in codes.iter().enumerate() {
+        out[i] = u16::from_le_bytes(*code);
     }
 }
 
@@ -61,6 +61,7 @@ fn fill_blocks(payload: &[u8], list: Part, numbers: &mut [u16], places: &mut [u8
         payload,
         at: list.start,
     };
+    // By index: tried as a `zip` of the three `iter_mut`, nothing is known behind the loop of what the buffers hold.
     for i in 0..list.count {
         // The parser has taken these elements, so that none is refused here.
         let Ok((taken, behind)) = cursor.take_element() else {

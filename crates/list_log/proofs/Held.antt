@@ -12,7 +12,7 @@ use Rattle.std.specs.Io.KnownBytes.{Consumes, Appends, IsAtEnd}
 use Rattle.felica_put.specs.declared.Output.{Output}
 use Rattle.felica_put.specs.Output.{Puts, held}
 use Rattle.felica_put.specs.Put.{Buffer}
-use Rattle.felica_put.proofs.Laws.{put_room, put_taken, kept}
+use Rattle.felica_put.proofs.Laws.{put_room, put_taken, put_within, kept}
 use Rattle.felica_totals.specs.declared.Totals.{Totals}
 use Rattle.felica_totals.specs.Count.{no_totals}
 use Rattle.felica_stream.specs.Held.{moved, RoomMade}
@@ -82,8 +82,10 @@ module _ {o p : Output ℕ} (made : RoomMade o p line_room) where
 
 -- one step more
 module _ (b : Buffer) (u : Totals) (piece : List ℕ) {out : Buffer} {v : Totals} {n : ℕ} {stop : Stop} (e : reached out v n stop ≡ step b u piece) where
-  pub used_inside : n ≤ length piece
-  used_inside = subst (λ (r : Reached). r.used ≤ length piece) (sym e) (step_inside b u piece).0
+  pub inside_after : (held : List ℕ) (used : ℕ) → piece ≡ drop used held → used ≤ length held → used + n ≤ length held
+  inside_after held used is h =
+      let step : n ≤ length piece = subst (λ (r : Reached). r.used ≤ length piece) (sym e) (step_inside b u piece).0 in
+      omega (arith, step, ap length is ∙ length-drop used held, h)
 
   length_after : length out.bytes ≡ length b.bytes
   length_after =
@@ -96,9 +98,10 @@ module _ (b : Buffer) (u : Totals) (piece : List ℕ) {out : Buffer} {v : Totals
   pub sound_after : Sound u → Sound v
   sound_after s = subst (λ (r : Reached). Sound r.totals) (sym e) (sound_kept b u piece s)
 
-  pub none_after : Sound u → lacks_room stop ≡ false → NoneLeft v (drop n piece)
-  none_after s other =
-      subst (λ (r : Reached). NoneLeft r.totals (drop r.used piece)) (sym e) (none_left_behind b u piece s (subst (λ (r : Reached). lacks_room r.stop ≡ false) e other))
+  pub none_after : (held : List ℕ) (used : ℕ) → piece ≡ drop used held → Sound u → lacks_room stop ≡ false → NoneLeft v (drop (used + n) held)
+  none_after held used is s other =
+      let none = none_left_behind b u piece s (subst (λ (r : Reached). lacks_room r.stop ≡ false) e other) in
+      subst (NoneLeft v) (ap (drop n) is ∙ drop-drop n used held) (subst (λ (r : Reached). NoneLeft r.totals (drop r.used piece)) (sym e) none)
 
   pub some_used : room_for_line b ≡ true → lacks_room stop ≡ true → n ≡ 0 → ⊥
   some_used room lacks none = room_used b u piece room (subst (λ (r : Reached). lacks_room r.stop ≡ true) e lacks) (subst (λ (r : Reached). r.used ≡ 0) e none)
@@ -155,6 +158,11 @@ rest_moved s used end h k =
 
 pub none_kept : (v : Option (List ℕ)) (t : Totals) (a : Buffer) (held : List ℕ) (w : Option (List ℕ)) (u : Totals) (b : Buffer) (rest : List ℕ) → RestKept v t a held w u b rest → NoneLeft u rest
 none_kept v t a held w u b rest (used, all, is) = subst (NoneLeft u) (sym is) all.1
+
+-- behind what is put, there is room for a line still
+pub room_still : {p q : Output ℕ} {text : List ℕ} → Puts p q text → HasLineRoom p → HasLineRoom q
+room_still {p} {q} {text} puts h =
+    record { inside = put_within _ _ _ puts.held h.inside; line = omega (arith, h.line, ap (λ (b : Buffer). length b.bytes) puts.held, (kept (held p) text).long) }
 
 -- the lines behind the records stand whole behind what waits
 module _ {o p q : Output ℕ} (text : List ℕ) (made : RoomMade o p line_room) (room : HasLineRoom o) (short : length text ≤ line_room) (puts : Puts p q text) where

@@ -24,23 +24,25 @@ enum Failure {
     Write,
 }
 
+// A listing as far as it has come: the lines that wait, and the totals of the records before the next.
+#[derive(Drop)]
+struct Listing<'a> {
+    out: Output<'a, u8>,
+    totals: Totals,
+    ghost room: { HasLineRoom out },
+    ghost sound: { Sound totals },
+}
+
 // Lists the whole records of what is held, and answers how many bytes they are.
-fn list_held<W: Write>(
-    writer: &mut W,
-    held: &[u8],
-    out: &mut Output<u8>,
-    totals: &mut Totals,
-) -> io::Result<usize>
-    requires room { HasLineRoom out.old }
-    requires sound { Sound totals.old }
-    ensures listed { IfOk result (λ used. (used ≤ length held.now) × AllListed (W.contents writer.old) totals.old (put_in out.old) held.now (W.contents writer.new) totals.new (put_in out.new) used) }
-    ensures room { HasLineRoom out.new }
-    ensures sound { Sound totals.new }
+fn list_held<W: Write>(writer: &mut W, held: &[u8], listing: &mut Listing) -> io::Result<usize>
+    ensures { IfOk result (λ used. (used ≤ length held.now) × AllListed (W.contents writer.old) listing.old.totals (put_in listing.old.out) held.now (W.contents writer.new) listing.new.totals (put_in listing.new.out) used) }
 {
     let mut used = 0;
     loop {
-        make_room(writer, out, LINE_ROOM)?;
-        let progress = list_records(&held[used..], out, totals);
+        make_room(writer, &mut listing.out, LINE_ROOM)?;
+        let mut totals = listing.totals;
+        let progress = list_records(&held[used..], &mut listing.out, &mut totals);
+        listing.totals = totals;
         used += progress.used;
         if !progress.stop.lacks_room() {
             return Ok(used);
@@ -53,17 +55,12 @@ fn list_input<W: Write>(
     writer: &mut W,
     input: &mut [u8],
     held: usize,
-    out: &mut Output<u8>,
-    totals: &mut Totals,
+    listing: &mut Listing,
 ) -> io::Result<usize>
-    requires inside { held ≤ length input.old }
-    requires room { HasLineRoom out.old }
-    requires sound { Sound totals.old }
-    ensures listed { IfOk result (λ left. (left ≤ length input.new) × RestKept (W.contents writer.old) totals.old (put_in out.old) (take held input.old) (W.contents writer.new) totals.new (put_in out.new) (take left input.new)) }
-    ensures room { HasLineRoom out.new }
-    ensures sound { Sound totals.new }
+    requires { held ≤ length input.old }
+    ensures { IfOk result (λ left. (left ≤ length input.new) × RestKept (W.contents writer.old) listing.old.totals (put_in listing.old.out) (take held input.old) (W.contents writer.new) listing.new.totals (put_in listing.new.out) (take left input.new)) }
 {
-    let used = list_held(writer, &input[..held], out, totals)?;
+    let used = list_held(writer, &input[..held], listing)?;
     keep_rest(input, used, held);
     Ok(held - used)
 }
@@ -92,23 +89,19 @@ fn feed<R: Read, W: Write>(
     reader: &mut R,
     writer: &mut W,
     input: &mut [u8],
-    out: &mut Output<u8>,
-    totals: &mut Totals,
+    listing: &mut Listing,
 ) -> Result<usize, Failure>
     requires input { 256 ≤ length input.old }
-    requires room { HasLineRoom out.old }
-    requires started { (out.old.len ≡ 0) × (totals.old ≡ no_totals) }
-    ensures room { HasLineRoom out.new }
-    ensures sound { Sound totals.new }
+    requires started { (listing.old.out.len ≡ 0) × (listing.old.totals ≡ no_totals) }
     ensures inside { IfOk result (λ held. held ≤ length input.new) }
-    ensures all { IfOk result (λ held. AllRead (R.remaining reader.old) (R.remaining reader.new) (W.contents writer.old) (W.contents writer.new) totals.new (put_in out.new) (take held input.new)) }
-    ensures none_left { IfOk result (λ held. NoneLeft totals.new (take held input.new)) }
+    ensures all { IfOk result (λ held. AllRead (R.remaining reader.old) (R.remaining reader.new) (W.contents writer.old) (W.contents writer.new) listing.new.totals (put_in listing.new.out) (take held input.new)) }
+    ensures none_left { IfOk result (λ held. NoneLeft listing.new.totals (take held input.new)) }
 {
     let mut held = 0;
     for _ in 0..u64::MAX {
         let more = read_piece(reader, input, held).map_err(|_| Failure::Read)?;
-        let left = list_input(writer, input, more, out, totals).map_err(|_| Failure::Write)?;
-        if is_over(more == held, *totals, left) {
+        let left = list_input(writer, input, more, listing).map_err(|_| Failure::Write)?;
+        if is_over(more == held, listing.totals, left) {
             return Ok(left);
         }
         held = left;
@@ -117,20 +110,13 @@ fn feed<R: Read, W: Write>(
 }
 
 // Writes what waits and the lines that end the listing.
-fn finish<W: Write>(
-    writer: &mut W,
-    rest: &[u8],
-    out: &mut Output<u8>,
-    totals: Totals,
-) -> io::Result<()>
-    requires room { HasLineRoom out.old }
-    requires sound { Sound totals }
-    ensures end { OnOk result (EndPut (put_in out.old) (end_text totals rest.now) out.new.room.now) }
-    ensures bytes { OnOk result (Appends (W.contents writer.old) (W.contents writer.new) (take out.old.len out.old.room.now ++ end_text totals rest.now)) }
+fn finish<W: Write>(writer: &mut W, rest: &[u8], listing: &mut Listing) -> io::Result<()>
+    ensures end { OnOk result (EndPut (put_in listing.old.out) (end_text listing.old.totals rest.now) listing.new.out.room.now) }
+    ensures bytes { OnOk result (Appends (W.contents writer.old) (W.contents writer.new) (take listing.old.out.len listing.old.out.room.now ++ end_text listing.old.totals rest.now)) }
 {
-    make_room(writer, out, LINE_ROOM)?;
-    put_end(out, rest, totals);
-    writer.write_all(out.filled())
+    make_room(writer, &mut listing.out, LINE_ROOM)?;
+    put_end(&mut listing.out, rest, listing.totals);
+    writer.write_all(listing.out.filled())
 }
 
 // Lists the log from its first record to TOTAL.
@@ -138,16 +124,14 @@ fn list<R: Read, W: Write>(
     reader: &mut R,
     writer: &mut W,
     input: &mut [u8],
-    out: &mut Output<u8>,
+    listing: &mut Listing,
 ) -> Result<(), Failure>
     requires input { 256 ≤ length input.old }
-    requires room { HasLineRoom out.old }
-    requires started { out.old.len ≡ 0 }
+    requires started { (listing.old.out.len ≡ 0) × (listing.old.totals ≡ no_totals) }
     ensures { OnOk result (TakesListing (R.remaining reader.old) (W.contents writer.old) (W.contents writer.new)) }
 {
-    let mut totals = Totals::default();
-    let held = feed(reader, writer, input, out, &mut totals)?;
-    finish(writer, &input[..held], out, totals).map_err(|_| Failure::Write)
+    let held = feed(reader, writer, input, listing)?;
+    finish(writer, &input[..held], listing).map_err(|_| Failure::Write)
 }
 
 // Lists the log; one without TOTAL is not complete, and then the error output says why.
@@ -161,12 +145,15 @@ fn run<R: Read, W: Write, E: Write>(
     requires { (256 ≤ length input.old) × (line_room ≤ length out.old) }
     ensures { OnOk result (TakesListing (R.remaining reader.old) (W.contents writer.old) (W.contents writer.new)) }
 {
-    let mut out = Output::new(out);
-    let listed = list(reader, writer, input, &mut out);
+    let mut listing = Listing {
+        out: Output::new(out),
+        totals: Totals::new(),
+    };
+    let listed = list(reader, writer, input, &mut listing);
     let _ = match listed {
         Ok(()) => Ok(()),
         Err(Failure::Read) => {
-            let _ = writer.write_all(out.filled());
+            let _ = writer.write_all(listing.out.filled());
             errors.write_all(b"list_log: the log cannot be read\n")
         }
         Err(Failure::Write) => errors.write_all(b"list_log: the listing cannot be written\n"),

@@ -20,5 +20,5 @@ returns c =
     (puts_then c.put-2.ensures
     (puts_then c.put_decimal-2.ensures
     (puts_then c.put-3.ensures
-    (puts_then c.put_decimal-3.ensures
+    (puts_then (puts_same c.put_decimal-3.ensures (ap decimal_text c.from.ensures))
     (puts_then c.put-4.ensures c.put_mark_field.ensures))))))))

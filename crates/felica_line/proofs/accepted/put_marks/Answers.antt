@@ -1,21 +1,30 @@
 -- `put_marks` meets its contract: a code for each turn.
 -- Assumes nothing.
-use Rattle.std.proofs.Common.{ap, arith, add-zero}
-use Rattle.std.proofs.Math.Nat.{sub-zero}
-use Rattle.felica_put.proofs.Lists.{leads_start, leads_turn, leads_end}
-use Rattle.felica_cursor.proofs.Laws.{no_words}
-use Rattle.felica_line.specs.Line.{marks_text}
-use Rattle.felica_line.proofs.Marks.{mark_next}
+use Rattle.std.proofs.Common.{◌≡◌, ◌<◌, ◌≤◌, ◌∙◌, ap, arith, length, get_or}
+use Rattle.felica_command.specs.Meaning.{codes_at}
+use Rattle.felica_cursor.proofs.Codes.{codes_paired}
+use Rattle.felica_put.proofs.Laws.{puts_nothing}
+use Rattle.felica_put.proofs.Lists.{puts_same, puts_turn, puts_all}
+use Rattle.felica_line.specs.Line.{mark_text}
 use Rattle.felica_line.proofs.accepted.put_marks.Goals as goal
 
-pub loop-i-init : goal.loop-i-init
-loop-i-init c = rw (sub-zero, add-zero) leads_start
+pub loop-code-init : goal.loop-code-init
+loop-code-init c = puts_nothing
 
-pub loop-i-preserved : goal.loop-i-preserved
-loop-i-preserved c =
+pub loop-code-preserved : goal.loop-code-preserved
+loop-code-preserved c =
     let a = c.args in
-    let mark = rw (c.mark_of.ensures, c.word_of.ensures) at c.put.ensures in
-    leads_turn _ _ c.loop-i.invariant (mark_next a.payload.now a.list.start a.list.count c.loop-i.i c.loop-i-test.true) mark
+    let i = c.loop-code.code-index in
+    let codes = codes_at a.payload.now a.list in
+    let pairs = codes_paired a.payload.now a.list c.requires c.as_chunks.ensures.front in
+    let more : i < length codes = omega (arith, pairs.long, c.loop-code-test.true) in
+    let code : c.from_le_bytes.result ≡ get_or codes i 0 = omega (arith, c.from_le_bytes.ensures, pairs.each i) in
+    puts_turn mark_text codes i 0 more c.loop-code.invariant (puts_same c.put.ensures (c.mark_of.ensures ∙ ap mark_text code))
 
 pub returns : goal.returns
-returns c = leads_end c.loop-i.invariant (ap marks_text (no_words _ _ (omega arith)))
+returns c =
+    let a = c.args in
+    let codes = codes_at a.payload.now a.list in
+    let pairs = codes_paired a.payload.now a.list c.requires c.as_chunks.ensures.front in
+    let all : length codes ≤ c.loop-code.code-index = omega (arith, pairs.long, c.loop-code-test.false) in
+    puts_all mark_text codes c.loop-code.code-index all c.loop-code.invariant

@@ -1,30 +1,32 @@
 -- `fill_codes` meets its contract: a code for each turn.
 -- Assumes nothing.
-use Rattle.std.proofs.Common.{◌≡◌, ◌+◌, ◌*◌, ◌-◌, arith, refl}
+use Rattle.std.proofs.Common.{◌≡◌, ◌<◌, ◌≤◌, arith, refl, length, get_or}
+use Rattle.std.proofs.lemmas.List.{drop_all}
 use Rattle.felica_command.specs.Meaning.{codes_at}
 use Rattle.felica_command.proofs.Inside.{words_of_length}
-use Rattle.felica_cursor.proofs.Laws.{words_next, no_words}
+use Rattle.felica_cursor.proofs.Codes.{codes_paired}
+use Rattle.felica_cursor.proofs.Laws.{front_at}
 use Rattle.felica_lists.proofs.Laws.{store_more, store_done}
 use Rattle.felica_lists.proofs.fill.fill_codes.Goals as goal
 
 pub loop-i-init : goal.loop-i-init
-loop-i-init c =
-    let start : c.args.list.start + 2 * 0 ≡ c.args.list.start = omega arith in
-    let all : c.args.list.count - 0 ≡ c.args.list.count = omega arith in
-    rw (start, all) refl
+loop-i-init c = refl
 
 pub loop-i-preserved : goal.loop-i-preserved
 loop-i-preserved c =
     let l = c.loop-i in
     let a = c.args in
-    let at = a.list.start + 2 * l.i in
-    let left = a.list.count - (l.i + 1) in
-    let further : at + 2 ≡ a.list.start + 2 * (l.i + 1) = omega arith in
-    let next = words_next a.payload.now at (a.list.count - l.i) left (omega arith) in
-    rw (← further) (store_more l.out l.i next c.word_of.ensures l.invariant)
+    let codes = codes_at a.payload.now a.list in
+    let pairs = codes_paired a.payload.now a.list c.requires.0 c.as_chunks.ensures.front in
+    let more : l.i < length codes = omega (arith, pairs.long, c.loop-i-test.true) in
+    let code : c.from_le_bytes.result ≡ get_or codes l.i 0 = omega (arith, c.from_le_bytes.ensures, pairs.each l.i) in
+    store_more l.out l.i (front_at codes l.i more) code l.invariant
 
 pub returns : goal.returns
 returns c =
     let l = c.loop-i in
     let a = c.args in
-    store_done l.out l.i a.out.now (codes_at a.payload.now a.list) (no_words _ _ (omega arith)) (rw words_of_length (omega arith)) l.invariant
+    let codes = codes_at a.payload.now a.list in
+    let pairs = codes_paired a.payload.now a.list c.requires.0 c.as_chunks.ensures.front in
+    let none : length codes ≤ l.i = omega (arith, pairs.long, c.loop-i-test.false) in
+    store_done l.out l.i a.out.now codes (drop_all l.i codes none) (rw words_of_length (omega arith)) l.invariant
