@@ -2,7 +2,7 @@
 use felica_command::fixed::Fixed;
 
 // A command's code, with every fixed field and list that a command may have. A list that the command lacks is empty.
-#[derive(Clone, Copy)]
+#[derive(Clone, Copy, Debug, PartialEq, Eq)]
 pub struct Handed<'a> {
     pub code: u8,
     pub fixed: Fixed,

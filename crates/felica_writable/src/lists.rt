@@ -20,7 +20,7 @@ pub(crate) fn codes_ok(codes: Option<Bounds>, list: &[u16]) -> bool
 fn is_between(least: u8, count: usize, greatest: u8) -> bool
     ensures { result ≡ (leb least count and leb count greatest) }
 {
-    least as usize <= count && count <= greatest as usize
+    usize::from(least) <= count && count <= usize::from(greatest)
 }
 
 // The three lists of a block list: of one length, with places below 16 and modes below 8.
@@ -55,11 +55,11 @@ pub(crate) fn data_ok(present: bool, blocks: usize, data: &[u8]) -> bool
     data.len() % BLOCK_SIZE == 0 && data.len() / BLOCK_SIZE == blocks
 }
 
-pub(crate) fn package_ok(behind: Behind, package: &[u8]) -> bool
+pub(crate) fn package_ok(behind: Option<Behind>, package: &[u8]) -> bool
     ensures { result ≡ package_ok (behind_meant behind) «package».now }
 {
     match behind {
-        Behind::Package => true,
-        Behind::Nothing | Behind::IgnoredBytes => package.is_empty(),
+        Some(Behind::Package) => true,
+        None | Some(Behind::IgnoredBytes) => package.is_empty(),
     }
 }

@@ -81,7 +81,6 @@ ready l c n ok =
       modes_small = small.1;
       all_data = d.0;
       few_data = d.1;
-      few_fixed = n.ending;
       whole_challenge = whole_challenge (ranges_of l.ending) (end_fields_of c) h.values;
       all_package = all_package l.behind c.issue_package h.pack;
     }

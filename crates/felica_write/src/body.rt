@@ -2,7 +2,6 @@
 ghost use Rattle.std.specs.Prelude.{◌≡◌, true, false, [], ◌∷◌, ◌≤◌, ◌<◌, length};
 ghost use Rattle.felica_format.specs.Basic.{all_below, word_bytes};
 ghost use Rattle.felica_format.specs.Command.{end_fields, zip_elements};
-ghost use Rattle.felica_format.specs.Read.{size_of};
 ghost use Rattle.felica_format.specs.Write.{idm_bytes, selector_bytes, words_bytes, codes_bytes, element_bytes, elements_bytes, ending_bytes, body_bytes};
 ghost use Rattle.felica_layout.specs.Layout.{layout_meant, selector_meant, codes_meant, ending_meant};
 ghost use Rattle.felica_put.specs.Output.{Puts};
@@ -40,6 +39,7 @@ pub(crate) fn put_body(out: &mut Output<'_, u8>, layout: Layout, command: Handed
     out.put_all(command.package);
 }
 
+#[tactic(auto, unfolding(felica_format::specs::Write::idm_bytes, felica_put::specs::Put::put))]
 fn put_idm(out: &mut Output<'_, u8>, present: bool, idm: [u8; 8])
     ensures { Puts out.old out.new (idm_bytes present idm) }
 {
@@ -48,6 +48,7 @@ fn put_idm(out: &mut Output<'_, u8>, present: bool, idm: [u8; 8])
     }
 }
 
+#[tactic(auto, unfolding(felica_format::specs::Write::selector_bytes, felica_put::specs::Put::put))]
 fn put_selector(out: &mut Output<'_, u8>, selector: Option<Selector>, value: u8)
     ensures { Puts out.old out.new (selector_bytes (selector_meant selector) value) }
 {
@@ -56,6 +57,7 @@ fn put_selector(out: &mut Output<'_, u8>, selector: Option<Selector>, value: u8)
     }
 }
 
+#[tactic(auto, unfolding(felica_format::specs::Write::codes_bytes, felica_put::specs::Put::put))]
 fn put_codes(out: &mut Output<'_, u8>, codes: Option<Bounds>, list: &[u16])
     requires { length list.now ≤ 255 }
     ensures { Puts out.old out.new (codes_bytes (codes_meant codes) list.now) }
@@ -77,6 +79,7 @@ fn put_counted(out: &mut Output<'_, u8>, list: &[u16])
 }
 
 // The low byte first. One by one, since a copy of two bytes takes twice as long.
+#[tactic(auto, unfolding(felica_put::specs::Put::put))]
 fn put_word(out: &mut Output<'_, u8>, word: u16)
     ensures { Puts out.old out.new (word_bytes word) }
 {
@@ -124,22 +127,24 @@ fn put_element(out: &mut Output<'_, u8>, number: u16, place: u8, mode: u8)
     }
 }
 
-fn put_ending(out: &mut Output<'_, u8>, ending: Ending, fixed: Fixed)
-    requires { size_of (ending_meant ending) ≤ 16 }
+#[tactic(auto, unfolding(felica_format::specs::Write::ending_bytes, felica_put::specs::Put::put))]
+fn put_ending(out: &mut Output<'_, u8>, ending: Option<Ending>, fixed: Fixed)
     ensures { Puts out.old out.new (ending_bytes (ending_meant ending) (end_fields fixed.number fixed.index fixed.option fixed.choice fixed.challenge)) }
 {
     match ending {
-        Ending::Bytes(count) => out.put_all(&fixed.challenge[..count]),
-        Ending::Word => put_word(out, fixed.number),
-        Ending::Words => {
+        None => {}
+        Some(Ending::EightBytes) => out.put_all(&fixed.challenge[..8]),
+        Some(Ending::SixteenBytes) => out.put_all(&fixed.challenge),
+        Some(Ending::Word) => put_word(out, fixed.number),
+        Some(Ending::Words) => {
             put_word(out, fixed.number);
             put_word(out, fixed.index);
         }
-        Ending::Reserved => out.put_all(b"\0\0"),
-        Ending::Polling => {
+        Some(Ending::Reserved) => out.put_all(b"\0\0"),
+        Some(Ending::Polling) => {
             let [high, low] = fixed.number.to_be_bytes();
             out.put_all(&[high, low, fixed.option, fixed.choice]);
         }
-        Ending::Parameter => out.put_all(&[0, 0, 0, 0, fixed.option, fixed.choice, 0, 0]),
+        Some(Ending::Parameter) => out.put_all(&[0, 0, 0, 0, fixed.option, fixed.choice, 0, 0]),
     }
 }

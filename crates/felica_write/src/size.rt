@@ -70,13 +70,15 @@ fn element_size(number: u16) -> usize
     if number < 256 { 2 } else { 3 }
 }
 
-fn ending_size(ending: Ending) -> usize
-    ensures { result ≡ size_of (ending_meant ending) }
+fn ending_size(ending: Option<Ending>) -> usize
+    ensures size { result ≡ size_of (ending_meant ending) }
+    ensures bound { result ≤ 16 }
 {
     match ending {
-        Ending::Bytes(count) => count,
-        Ending::Word | Ending::Reserved => 2,
-        Ending::Words | Ending::Polling => 4,
-        Ending::Parameter => 8,
+        None => 0,
+        Some(Ending::Word | Ending::Reserved) => 2,
+        Some(Ending::Words | Ending::Polling) => 4,
+        Some(Ending::EightBytes | Ending::Parameter) => 8,
+        Some(Ending::SixteenBytes) => 16,
     }
 }
