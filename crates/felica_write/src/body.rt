@@ -2,15 +2,15 @@
 ghost use Rattle.std.specs.Prelude.{◌≡◌, true, false, [], ◌∷◌, ◌≤◌, ◌<◌, length};
 ghost use Rattle.felica_format.specs.Basic.{all_below, word_bytes};
 ghost use Rattle.felica_format.specs.Command.{end_fields, zip_elements};
-ghost use Rattle.felica_format.specs.Write.{idm_bytes, selector_bytes, words_bytes, codes_bytes, element_bytes, elements_bytes, ending_bytes, body_bytes};
-ghost use Rattle.felica_layout.specs.Layout.{layout_meant, selector_meant, codes_meant, ending_meant};
+ghost use Rattle.felica_format.specs.Write.{data_bytes, package_bytes, selector_bytes, words_bytes, codes_bytes, element_bytes, elements_bytes, ending_bytes, body_bytes};
+ghost use Rattle.felica_layout.specs.Layout.{layout_meant, selector_meant, codes_meant, ending_meant, behind_meant};
 ghost use Rattle.felica_put.specs.Output.{Puts};
 ghost use Rattle.felica_writable.specs.Handed.{handed_by};
 ghost use Rattle.felica_write.specs.Body.{Ready, element};
 
 use felica_command::fixed::Fixed;
 use felica_format::constants::Bounds;
-use felica_layout::{Ending, Layout, Selector};
+use felica_layout::{Behind, Ending, Layout, Selector};
 use felica_put::Output;
 use felica_writable::handed::Handed;
 
@@ -18,11 +18,11 @@ use felica_writable::handed::Handed;
 const LEAST_LONG: u16 = 256;
 
 pub(crate) fn put_body(out: &mut Output<'_, u8>, layout: Layout, command: Handed<'_>)
-    requires { Ready (layout_meant layout) (handed_by command) }
+    requires { Ready (handed_by command) }
     ensures { Puts out.old out.new (body_bytes (layout_meant layout) [] (handed_by command.entry)) }
 {
     let fixed = command.fixed;
-    put_idm(out, layout.idm, fixed.idm);
+    put_if(out, layout.idm, &fixed.idm);
     put_selector(out, layout.selector, fixed.selector);
     put_codes(out, layout.first, command.first);
     put_codes(out, layout.second, command.second);
@@ -33,18 +33,18 @@ pub(crate) fn put_body(out: &mut Output<'_, u8>, layout: Layout, command: Handed
         command.places,
         command.modes,
     );
-    // Data and package that the layout lacks are empty.
-    out.put_all(command.data);
+    put_if(out, layout.block_data, command.data);
     put_ending(out, layout.ending, fixed);
-    out.put_all(command.package);
+    put_package(out, layout.behind, command.package);
 }
 
-#[tactic(auto, unfolding(felica_format::specs::Write::idm_bytes, felica_put::specs::Put::put))]
-fn put_idm(out: &mut Output<'_, u8>, present: bool, idm: [u8; 8])
-    ensures { Puts out.old out.new (idm_bytes present idm) }
+// The IDm, or the data.
+#[tactic(auto, unfolding(felica_format::specs::Write::data_bytes, felica_put::specs::Put::put))]
+fn put_if(out: &mut Output<'_, u8>, present: bool, bytes: &[u8])
+    ensures { Puts out.old out.new (data_bytes present «bytes».now) }
 {
     if present {
-        out.put_all(&idm);
+        out.put_all(bytes);
     }
 }
 
@@ -88,6 +88,7 @@ fn put_word(out: &mut Output<'_, u8>, word: u16)
     out.put(high);
 }
 
+#[tactic(auto, unfolding(felica_format::specs::Write::elements_bytes, felica_put::specs::Put::put))]
 fn put_elements(
     out: &mut Output<'_, u8>,
     present: bool,
@@ -106,8 +107,8 @@ fn put_elements(
         return;
     }
     out.put(numbers.len() as u8);
-    for (i, &number) in numbers.iter().enumerate() {
-        put_element(out, number, places[i], modes[i]);
+    for ((&number, &place), &mode) in numbers.iter().zip(places).zip(modes) {
+        put_element(out, number, place, mode);
     }
 }
 
@@ -146,5 +147,15 @@ fn put_ending(out: &mut Output<'_, u8>, ending: Option<Ending>, fixed: Fixed)
             out.put_all(&[high, low, fixed.option, fixed.choice]);
         }
         Some(Ending::Parameter) => out.put_all(&[0, 0, 0, 0, fixed.option, fixed.choice, 0, 0]),
+    }
+}
+
+#[tactic(auto, unfolding(felica_format::specs::Write::package_bytes, felica_put::specs::Put::put))]
+fn put_package(out: &mut Output<'_, u8>, behind: Option<Behind>, package: &[u8])
+    ensures { Puts out.old out.new (package_bytes (behind_meant behind) «package».now) }
+{
+    match behind {
+        Some(Behind::Package) => out.put_all(package),
+        None | Some(Behind::IgnoredBytes) => {}
     }
 }

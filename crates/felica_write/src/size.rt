@@ -13,7 +13,7 @@ use felica_writable::handed::Handed;
 
 // All but the package: 5,893 bytes at most, so that sums with it are safe.
 pub(crate) fn body_size(layout: Layout, command: Handed<'_>) -> usize
-    requires { Ready (layout_meant layout) (handed_by command) }
+    requires { Ready (handed_by command) }
     ensures size { result ≡ front_size (layout_meant layout) (length command.entry.first.now) (length command.entry.second.now) command.entry.numbers.now (length command.entry.data.now) }
     ensures bound { result ≤ 6000 }
 {
