@@ -1,7 +1,7 @@
 // The parts of a body, put into a buffer one behind the other.
 ghost use Rattle.std.specs.Prelude.{◌≡◌, true, false, [], ◌∷◌, ◌≤◌, ◌<◌, length};
 ghost use Rattle.felica_format.specs.Basic.{all_below, word_bytes};
-ghost use Rattle.felica_format.specs.Command.{end_fields, zip_elements};
+ghost use Rattle.felica_format.specs.Command.{end_fields, elements_of};
 ghost use Rattle.felica_format.specs.Write.{data_bytes, package_bytes, selector_bytes, words_bytes, codes_bytes, element_bytes, elements_bytes, ending_bytes, body_bytes};
 ghost use Rattle.felica_layout.specs.Layout.{layout_meant, selector_meant, codes_meant, ending_meant, behind_meant};
 ghost use Rattle.felica_put.specs.Output.{Puts};
@@ -26,13 +26,7 @@ pub(crate) fn put_body(out: &mut Output<'_, u8>, layout: Layout, command: Handed
     put_selector(out, layout.selector, fixed.selector);
     put_codes(out, layout.first, command.first);
     put_codes(out, layout.second, command.second);
-    put_elements(
-        out,
-        layout.elements,
-        command.numbers,
-        command.places,
-        command.modes,
-    );
+    put_elements(out, layout.elements, command);
     put_if(out, layout.block_data, command.data);
     put_ending(out, layout.ending, fixed);
     put_package(out, layout.behind, command.package);
@@ -89,25 +83,20 @@ fn put_word(out: &mut Output<'_, u8>, word: u16)
 }
 
 #[tactic(auto, unfolding(felica_format::specs::Write::elements_bytes, felica_put::specs::Put::put))]
-fn put_elements(
-    out: &mut Output<'_, u8>,
-    present: bool,
-    numbers: &[u16],
-    places: &[u8],
-    modes: &[u8],
-)
-    requires few { length numbers.now ≤ 255 }
-    requires places_long { length places.now ≡ length numbers.now }
-    requires modes_long { length modes.now ≡ length numbers.now }
-    requires places_small { all_below 16 places.now ≡ true }
-    requires modes_small { all_below 8 modes.now ≡ true }
-    ensures { Puts out.old out.new (elements_bytes present [] (zip_elements numbers.now places.now modes.now)) }
+fn put_elements(out: &mut Output<'_, u8>, present: bool, command: Handed<'_>)
+    requires { Ready (handed_by command) }
+    ensures { Puts out.old out.new (elements_bytes present [] (elements_of (handed_by command.entry))) }
 {
     if !present {
         return;
     }
-    out.put(numbers.len() as u8);
-    for ((&number, &place), &mode) in numbers.iter().zip(places).zip(modes) {
+    out.put(command.numbers.len() as u8);
+    for ((&number, &place), &mode) in command
+        .numbers
+        .iter()
+        .zip(command.places)
+        .zip(command.modes)
+    {
         put_element(out, number, place, mode);
     }
 }

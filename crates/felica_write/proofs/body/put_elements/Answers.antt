@@ -11,9 +11,9 @@ use Rattle.felica_write.proofs.body.put_elements.Goals as goal
 pub loop-number-init : goal.loop-number-init
 loop-number-init c =
     let z = c.into_iter-number-iterator.result in
-    let numbers : iter_rest (zip_first (zip_first z)) ≡ c.args.numbers.now = search rules in
-    let places : iter_rest (zip_second (zip_first z)) ≡ c.args.places.now = search rules in
-    let modes : iter_rest (zip_second z) ≡ c.args.modes.now = search rules in
+    let numbers : iter_rest (zip_first (zip_first z)) ≡ c.args.command.numbers.now = search rules in
+    let places : iter_rest (zip_second (zip_first z)) ≡ c.args.command.places.now = search rules in
+    let modes : iter_rest (zip_second z) ≡ c.args.command.modes.now = search rules in
     rw (numbers, places, modes)
     (record {
       leads = leads_start;
@@ -45,4 +45,4 @@ returns c =
       | inl x ↦ elim x.1 [ inl y ↦ y.1.0 | inr y ↦ omega (arith, y.1.0, l.places_long) ]
       | inr y ↦ omega (arith, y.1.0, l.modes_long)
     ] in
-    rw (← counted c.args.present c.args.numbers.now c.args.places.now c.args.modes.now c.if-not-present.false) (puts_then c.put.ensures (left_end l spent))
+    rw (← counted c.args.present c.args.command.numbers.now c.args.command.places.now c.args.command.modes.now c.if-not-present.false) (puts_then c.put.ensures (left_end l spent))
