@@ -8,9 +8,9 @@ use Rattle.felica_format.specs.Layout.{class_of, layout_of}
 use Rattle.felica_layout.specs.declared.Selector.{Selector}
 use Rattle.felica_layout.specs.declared.Selector.TheVariants.{TypeByte, AnyByte}
 use Rattle.felica_layout.specs.declared.Ending.{Ending}
-use Rattle.felica_layout.specs.declared.Ending.TheVariants.{Bytes, Word, Words, Reserved, Polling, Parameter}
+use Rattle.felica_layout.specs.declared.Ending.TheVariants.{EightBytes, SixteenBytes, Word, Words, Reserved, Polling, Parameter}
 use Rattle.felica_layout.specs.declared.Behind.{Behind}
-use Rattle.felica_layout.specs.declared.Behind.TheVariants.{Nothing, IgnoredBytes, Package}
+use Rattle.felica_layout.specs.declared.Behind.TheVariants.{IgnoredBytes, Package}
 use Rattle.felica_layout.specs.declared.Layout.{Layout}
 use Rattle.felica_layout.specs.declared.Row.{Row}
 
@@ -23,18 +23,20 @@ abbrev pub codes_meant : Option Bounds → format.Codes
 codes_meant None = format.no_codes
 codes_meant (Some b) = format.◌to◌ b.least b.greatest
 
-abbrev pub ending_meant : Ending → format.Ending
-ending_meant (Bytes n) = format.bytes n
-ending_meant Word = format.word
-ending_meant Words = format.words
-ending_meant Reserved = format.reserved
-ending_meant Polling = format.polling
-ending_meant Parameter = format.parameter
+abbrev pub ending_meant : Option Ending → format.Ending
+ending_meant None = format.bare
+ending_meant (Some EightBytes) = format.bytes 8
+ending_meant (Some SixteenBytes) = format.bytes 16
+ending_meant (Some Word) = format.word
+ending_meant (Some Words) = format.words
+ending_meant (Some Reserved) = format.reserved
+ending_meant (Some Polling) = format.polling
+ending_meant (Some Parameter) = format.parameter
 
-abbrev pub behind_meant : Behind → format.Behind
-behind_meant Nothing = format.nothing
-behind_meant IgnoredBytes = format.ignored_bytes
-behind_meant Package = format.a_package
+abbrev pub behind_meant : Option Behind → format.Behind
+behind_meant None = format.nothing
+behind_meant (Some IgnoredBytes) = format.ignored_bytes
+behind_meant (Some Package) = format.a_package
 
 abbrev pub layout_meant : Layout → format.Layout
 layout_meant l =

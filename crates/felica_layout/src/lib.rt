@@ -1,7 +1,7 @@
 // The layout of each command: one order of parts, each there or not, as specs/Layout.antt of felica_format has it in document 01's words.
 #![tactic(auto, unfolding(crate::specs::Layout::row_of, felica_format::specs::Layout::class_of, felica_format::specs::Layout::layout_of, felica_format::specs::Layout::layout_in, felica_format::specs::Layout::has, felica_format::specs::Layout::plain_rows, felica_format::specs::Layout::secure_rows))]
 
-ghost use Rattle.std.specs.Prelude.{◌≡◌, true, false};
+ghost use Rattle.std.specs.Prelude.{◌≡◌, true, false, Some};
 ghost use Rattle.felica_format.specs.Layout.{layout, no_selector, no_codes, ◌to◌, bytes, bare, nothing, has, plain_rows};
 ghost use Rattle.felica_format.specs.declared.classes.Class.TheVariants.{Plain, Secure};
 ghost use Rattle.felica_layout.specs.Layout.{selector_meant, ending_meant, behind_meant, layout_meant, row, row_meant, row_of};
@@ -22,8 +22,9 @@ pub enum Selector {
 // The fixed bytes that end a body.
 #[derive(Clone, Copy, PartialEq, Eq, Debug)]
 pub enum Ending {
-    // So many bytes of the challenge; 0 where there are no fixed bytes.
-    Bytes(usize),
+    // Bytes of the challenge; of 80 the issue id and the issue parameter.
+    EightBytes,
+    SixteenBytes,
     // One two-byte number.
     Word,
     // Two of them.
@@ -39,14 +40,13 @@ pub enum Ending {
 // What may stand behind them.
 #[derive(Clone, Copy, PartialEq, Eq, Debug)]
 pub enum Behind {
-    Nothing,
     // Any bytes, which are no part of the command.
     IgnoredBytes,
     Package,
 }
 
 // The parts in their order.
-#[derive(Clone, Copy)]
+#[derive(Clone, Copy, Debug, Default, PartialEq, Eq)]
 pub struct Layout {
     pub idm: bool,
     pub selector: Option<Selector>,
@@ -55,24 +55,12 @@ pub struct Layout {
     pub second: Option<Bounds>,
     pub elements: bool,
     pub block_data: bool,
-    pub ending: Ending,
-    pub behind: Behind,
+    pub ending: Option<Ending>,
+    pub behind: Option<Behind>,
 }
 
-// No bytes at all.
-const NO_PARTS: Layout = Layout {
-    idm: false,
-    selector: None,
-    first: None,
-    second: None,
-    elements: false,
-    block_data: false,
-    ending: Ending::Bytes(0),
-    behind: Behind::Nothing,
-};
-
 // The class of a code, and its layout; an unknown code has no bytes.
-#[derive(Clone, Copy)]
+#[derive(Clone, Copy, Debug, PartialEq, Eq)]
 pub struct Row {
     pub class: Class,
     pub layout: Layout,
@@ -87,16 +75,19 @@ pub fn row_of(code: u8) -> Row
         constants::REQUEST_SERVICE_COMMAND_CODE
         | constants::REQUEST_BLOCK_INFORMATION_COMMAND_CODE
         | constants::REQUEST_BLOCK_INFORMATION_EX_COMMAND_CODE
-        | constants::REQUEST_SERVICE_V2_COMMAND_CODE => coded(None, SERVICE_CODES, 0),
+        | constants::REQUEST_SERVICE_V2_COMMAND_CODE => coded(None, SERVICE_CODES, None),
         constants::REQUEST_RESPONSE_COMMAND_CODE
         | constants::REQUEST_SYSTEM_CODE_COMMAND_CODE
-        | constants::REQUEST_PRODUCT_INFORMATION_COMMAND_CODE => fixed(true, Ending::Bytes(0)),
+        | constants::REQUEST_PRODUCT_INFORMATION_COMMAND_CODE => plain(Layout {
+            idm: true,
+            ..Layout::default()
+        }),
         constants::READ_WITHOUT_ENCRYPTION_COMMAND_CODE => codes_and_blocks(false),
         constants::WRITE_WITHOUT_ENCRYPTION_COMMAND_CODE => codes_and_blocks(true),
         constants::SEARCH_SERVICE_CODE_COMMAND_CODE
         | constants::GET_AREA_INFORMATION_COMMAND_CODE => fixed(true, Ending::Word),
         constants::AUTHENTICATION1_COMMAND_CODE => two_code_lists(),
-        constants::AUTHENTICATION2_COMMAND_CODE => fixed(true, Ending::Bytes(8)),
+        constants::AUTHENTICATION2_COMMAND_CODE => fixed(true, Ending::EightBytes),
         constants::REQUEST_CODE_LIST_COMMAND_CODE => fixed(true, Ending::Words),
         constants::SET_PARAMETER_COMMAND_CODE => fixed(true, Ending::Parameter),
         constants::GET_CONTAINER_ISSUE_INFORMATION_COMMAND_CODE
@@ -106,15 +97,15 @@ pub fn row_of(code: u8) -> Row
         constants::GET_NODE_PROPERTY_COMMAND_CODE => coded(
             Some(Selector::TypeByte),
             NODE_PROPERTY_CODES,
-            0,
+            None,
         ),
         constants::GET_CONTAINER_PROPERTY_COMMAND_CODE => fixed(false, Ending::Word),
         constants::AUTHENTICATION1_V2_COMMAND_CODE => coded(
             Some(Selector::AnyByte),
             SERVICE_CODES,
-            16,
+            Some(Ending::SixteenBytes),
         ),
-        constants::AUTHENTICATION2_V2_COMMAND_CODE => fixed(true, Ending::Bytes(16)),
+        constants::AUTHENTICATION2_V2_COMMAND_CODE => fixed(true, Ending::SixteenBytes),
         constants::GET_CONTAINER_ID_COMMAND_CODE => fixed(false, Ending::Reserved),
         _ => secure_row(code),
     }
@@ -128,57 +119,52 @@ fn secure_row(code: u8) -> Row
         constants::READ_COMMAND_CODE | constants::READ_V2_COMMAND_CODE => payload_row(
             true,
             false,
-            Ending::Bytes(0),
-            Behind::IgnoredBytes,
+            None,
+            Some(Behind::IgnoredBytes),
         ),
         constants::WRITE_COMMAND_CODE | constants::WRITE_V2_COMMAND_CODE => payload_row(
             true,
             true,
-            Ending::Bytes(0),
-            Behind::IgnoredBytes,
+            None,
+            Some(Behind::IgnoredBytes),
         ),
         constants::REGISTER_ISSUE_ID_COMMAND_CODE => payload_row(
             false,
             false,
-            Ending::Bytes(16),
-            Behind::Package,
+            Some(Ending::SixteenBytes),
+            Some(Behind::Package),
         ),
         constants::REGISTER_AREA_COMMAND_CODE | constants::REGISTER_SERVICE_COMMAND_CODE =>
-            payload_row(false, false, Ending::Word, Behind::Package),
-        constants::CHANGE_SYSTEM_BLOCK_COMMAND_CODE => payload_row(
-            false,
-            false,
-            Ending::Bytes(0),
-            Behind::Nothing,
-        ),
+            payload_row(false, false, Some(Ending::Word), Some(Behind::Package)),
+        constants::CHANGE_SYSTEM_BLOCK_COMMAND_CODE => payload_row(false, false, None, None),
         _ => Row {
             class: Class::Unknown,
-            layout: NO_PARTS,
+            layout: Layout::default(),
         },
     }
 }
 
 // Without a list.
 fn fixed(idm: bool, ending: Ending) -> Row
-    ensures { row_meant result ≡ row Plain (layout idm no_selector no_codes no_codes false false (ending_meant ending) nothing) }
+    ensures { row_meant result ≡ row Plain (layout idm no_selector no_codes no_codes false false (ending_meant (Some ending)) nothing) }
 {
     plain(Layout {
         idm,
-        ending,
-        ..NO_PARTS
+        ending: Some(ending),
+        ..Layout::default()
     })
 }
 
 // With one code list, and a challenge or none.
-fn coded(selector: Option<Selector>, bounds: Bounds, challenge: usize) -> Row
-    ensures { row_meant result ≡ row Plain (layout true (selector_meant selector) (bounds.least to bounds.greatest) no_codes false false (bytes challenge) nothing) }
+fn coded(selector: Option<Selector>, bounds: Bounds, ending: Option<Ending>) -> Row
+    ensures { row_meant result ≡ row Plain (layout true (selector_meant selector) (bounds.least to bounds.greatest) no_codes false false (ending_meant ending) nothing) }
 {
     plain(Layout {
         idm: true,
         selector,
         first: Some(bounds),
-        ending: Ending::Bytes(challenge),
-        ..NO_PARTS
+        ending,
+        ..Layout::default()
     })
 }
 
@@ -190,8 +176,8 @@ fn two_code_lists() -> Row
         idm: true,
         first: Some(constants::AREA_AND_SERVICE_CODES),
         second: Some(constants::AREA_AND_SERVICE_CODES),
-        ending: Ending::Bytes(8),
-        ..NO_PARTS
+        ending: Some(Ending::EightBytes),
+        ..Layout::default()
     })
 }
 
@@ -203,7 +189,7 @@ fn codes_and_blocks(block_data: bool) -> Row
         first: Some(constants::RW_SERVICE_CODES),
         elements: true,
         block_data,
-        ..NO_PARTS
+        ..Layout::default()
     })
 }
 
@@ -216,7 +202,12 @@ fn plain(layout: Layout) -> Row
     }
 }
 
-fn payload_row(elements: bool, block_data: bool, ending: Ending, behind: Behind) -> Row
+fn payload_row(
+    elements: bool,
+    block_data: bool,
+    ending: Option<Ending>,
+    behind: Option<Behind>,
+) -> Row
     ensures { row_meant result ≡ row Secure (layout false no_selector no_codes no_codes elements block_data (ending_meant ending) (behind_meant behind)) }
 {
     Row {
@@ -226,7 +217,7 @@ fn payload_row(elements: bool, block_data: bool, ending: Ending, behind: Behind)
             block_data,
             ending,
             behind,
-            ..NO_PARTS
+            ..Layout::default()
         },
     }
 }

@@ -43,7 +43,7 @@ fn challenge_ok(challenge: [u8; 16], filled: usize) -> bool
 }
 
 // The greatest values of the fields that end a body, and how many bytes of the challenge it has. What it lacks is 0.
-#[derive(Clone, Copy, Default)]
+#[derive(Clone, Copy, Debug, Default, PartialEq, Eq)]
 struct Greatest {
     number: u16,
     index: u16,
@@ -51,43 +51,50 @@ struct Greatest {
     challenge: usize,
 }
 
-fn greatest_of(ending: Ending) -> Greatest
+fn greatest_of(ending: Option<Ending>) -> Greatest
     ensures { ranges (suc result.number) (suc result.index) (suc result.option) (ranges_of (ending_meant ending)).choices result.challenge ≡ ranges_of (ending_meant ending) }
 {
     let none = Greatest::default();
     match ending {
-        Ending::Bytes(challenge) => Greatest { challenge, ..none },
-        Ending::Word => Greatest {
+        None | Some(Ending::Reserved) => none,
+        Some(Ending::EightBytes) => Greatest {
+            challenge: 8,
+            ..none
+        },
+        Some(Ending::SixteenBytes) => Greatest {
+            challenge: 16,
+            ..none
+        },
+        Some(Ending::Word) => Greatest {
             number: u16::MAX,
             ..none
         },
-        Ending::Words => Greatest {
+        Some(Ending::Words) => Greatest {
             number: u16::MAX,
             index: u16::MAX,
             ..none
         },
-        Ending::Reserved => none,
-        Ending::Polling => Greatest {
+        Some(Ending::Polling) => Greatest {
             number: u16::MAX,
             option: 2,
             ..none
         },
-        Ending::Parameter => Greatest { option: 1, ..none },
+        Some(Ending::Parameter) => Greatest { option: 1, ..none },
     }
 }
 
 // Time slots, packet type.
-fn choice_ok(ending: Ending, choice: u8) -> bool
+fn choice_ok(ending: Option<Ending>, choice: u8) -> bool
     ensures { result ≡ (ranges_of (ending_meant ending)).choices choice }
 {
     match ending {
-        Ending::Polling => is_polling_time_slot(choice),
-        Ending::Parameter => choice <= 1,
-        Ending::Bytes(_) | Ending::Word | Ending::Words | Ending::Reserved => choice == 0,
+        Some(Ending::Polling) => is_polling_time_slot(choice),
+        Some(Ending::Parameter) => choice <= 1,
+        _ => choice == 0,
     }
 }
 
-pub(crate) fn end_fields_ok(ending: Ending, fixed: Fixed) -> bool
+pub(crate) fn end_fields_ok(ending: Option<Ending>, fixed: Fixed) -> bool
     ensures { result ≡ end_fields_ok (ranges_of (ending_meant ending)) (end_fields fixed.number fixed.index fixed.option fixed.choice fixed.challenge) }
 {
     let most = greatest_of(ending);

@@ -2,7 +2,8 @@
 use felica_command::fixed::Fixed;
 
 // A command's code, with every fixed field and list that a command may have. A list that the command lacks is empty.
-#[derive(Clone, Copy)]
+// Numbers, places and modes are three lists, as C lends them. They may differ in length, which the writer refuses: made into one list of elements before, they would lose entries instead, or need memory of their own.
+#[derive(Clone, Copy, Debug, PartialEq, Eq)]
 pub struct Handed<'a> {
     pub code: u8,
     pub fixed: Fixed,

@@ -20,10 +20,11 @@ pub(crate) fn codes_ok(codes: Option<Bounds>, list: &[u16]) -> bool
 fn is_between(least: u8, count: usize, greatest: u8) -> bool
     ensures { result ≡ (leb least count and leb count greatest) }
 {
-    least as usize <= count && count <= greatest as usize
+    usize::from(least) <= count && count <= usize::from(greatest)
 }
 
 // The three lists of a block list: of one length, with places below 16 and modes below 8.
+// Lent one by one, and not in `Handed`: that its entries fit their type is known of a slice that is a parameter, and of one in a struct it is not.
 pub(crate) fn elements_ok(present: bool, numbers: &[u16], places: &[u8], modes: &[u8]) -> bool
     ensures { result ≡ (same_length numbers.now places.now modes.now and elements_ok present (zip_elements numbers.now places.now modes.now)) }
 {
@@ -55,11 +56,11 @@ pub(crate) fn data_ok(present: bool, blocks: usize, data: &[u8]) -> bool
     data.len() % BLOCK_SIZE == 0 && data.len() / BLOCK_SIZE == blocks
 }
 
-pub(crate) fn package_ok(behind: Behind, package: &[u8]) -> bool
+pub(crate) fn package_ok(behind: Option<Behind>, package: &[u8]) -> bool
     ensures { result ≡ package_ok (behind_meant behind) «package».now }
 {
     match behind {
-        Behind::Package => true,
-        Behind::Nothing | Behind::IgnoredBytes => package.is_empty(),
+        Some(Behind::Package) => true,
+        None | Some(Behind::IgnoredBytes) => package.is_empty(),
     }
 }

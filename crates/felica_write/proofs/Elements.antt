@@ -1,33 +1,53 @@
 -- The elements of three lists, entry by entry.
 -- Assumes nothing.
-use Rattle.std.proofs.Common.{ℕ, zero, suc, ◌+◌, ◌*◌, ◌≤◌, ◌<◌, ◌≡◌, refl, sym, ap, ◌∙◌, Bool, true, false, cond, List, [], ◌∷◌, ◌++◌, arith}
+use Rattle.std.proofs.Common.{ℕ, suc, ◌+◌, ◌*◌, ◌≤◌, ◌<◌, ◌≡◌, refl, sym, ap, ◌∙◌, Bool, true, false, cond, List, [], ◌∷◌, ◌++◌, arith}
 use Rattle.std.proofs.Common.{ltb, length, get_or, drop, length-append}
 use Rattle.std.specs.List.{flat_map}
-use Rattle.std.proofs.Math.Seq.{get_or-drop}
 use Rattle.std.proofs.lemmas.Bool.{ltb-true, lt-ltb, le-ltb}
 use Rattle.std.proofs.lemmas.List.Sums.{sum_by-cons}
 use Rattle.felica_format.specs.Basic.{◌and◌, all_below, word_bytes}
 use Rattle.felica_format.specs.Command.{Element, zip_elements}
 use Rattle.felica_format.specs.Write.{words_bytes, short_bytes, long_bytes, element_bytes, each_bytes, elements_bytes}
 use Rattle.felica_format.proofs.Tests.{and_left, and_right}
+use Rattle.felica_put.specs.Output.{Puts}
+use Rattle.felica_put.specs.declared.Output.{Output}
+use Rattle.felica_put.proofs.Lists.{Leads, leads_turn, leads_end}
 use Rattle.felica_writable.proofs.Laws.{zip_length}
 use Rattle.felica_write.specs.Size.{short_size}
 use Rattle.felica_write.specs.Body.{element}
 
-pub zip_at : (ns ps ms : List ℕ) (i : ℕ) (e : Element) → i < length ns
-    → get_or (zip_elements ns ps ms) i e ≡ element (get_or ns i 0) (get_or ps i 0) (get_or ms i 0)
-unfolding zip_elements
-zip_at [] ps ms i e h = absurd (omega arith)
-zip_at (n ∷ ns) ps ms zero e h = refl
-zip_at (n ∷ ns) ps ms (suc i) e h =
-    let next : 1 + i ≡ suc i = omega arith in
-    rw (zip_at ns (drop 1 ps) (drop 1 ms) i e (omega arith), get_or-drop 1 ps i 0, get_or-drop 1 ms i 0, next)
+-- What a loop over the three lists keeps of what is left of them.
+pub record Left (a b : Output ℕ) (all ns ps ms : List ℕ) : Type 0 where
+  pub leads : Leads a b (each_bytes [] (zip_elements ns ps ms)) all
+  pub places_long : length ps ≡ length ns
+  pub modes_long : length ms ≡ length ns
+  pub places_small : all_below 16 ps ≡ true
+  pub modes_small : all_below 8 ms ≡ true
 
--- an entry of a list whose entries are below a bound
-pub small_at : (bound : ℕ) (s : List ℕ) (i : ℕ) → 0 < bound → all_below bound s ≡ true → get_or s i 0 < bound
-small_at bound [] i some h = some
-small_at bound (x ∷ xs) zero some h = ltb-true x bound (and_left (ltb x bound) (all_below bound xs) h)
-small_at bound (x ∷ xs) (suc i) some h = small_at bound xs i some (and_right (ltb x bound) (all_below bound xs) h)
+-- an entry in front of the others is below their bound
+pub first_below : (bound x : ℕ) (xs s : List ℕ) → s ≡ x ∷ xs → all_below bound s ≡ true → x < bound
+first_below bound x xs s is h = ltb-true x bound (and_left (ltb x bound) (all_below bound xs) (rw is at h))
+
+pub left_turn : {a b c : Output ℕ} {all : List ℕ} (n p m : ℕ) (ns ps ms : List ℕ) → Left a b all (n ∷ ns) (p ∷ ps) (m ∷ ms)
+    → Puts b c (element_bytes false (element n p m)) → Left a c all ns ps ms
+unfolding zip_elements each_bytes
+left_turn n p m ns ps ms l turn =
+    record {
+      leads = leads_turn (element_bytes false (element n p m)) (each_bytes [] (zip_elements ns ps ms)) l.leads refl turn;
+      places_long = omega (arith, l.places_long);
+      modes_long = omega (arith, l.modes_long);
+      places_small = and_right (ltb p 16) _ l.places_small;
+      modes_small = and_right (ltb m 8) _ l.modes_small;
+    }
+
+-- nothing is left where one list ends
+none_left : (ns ps ms : List ℕ) → length ns ≡ 0 → each_bytes [] (zip_elements ns ps ms) ≡ []
+unfolding zip_elements each_bytes
+none_left [] ps ms e = refl
+none_left (n ∷ ns) ps ms e = absurd (omega arith)
+
+pub left_end : {a b : Output ℕ} {all ns ps ms : List ℕ} → Left a b all ns ps ms → length ns ≡ 0 → Puts a b all
+left_end {ns = ns} {ps = ps} {ms = ms} l e = leads_end l.leads (none_left ns ps ms e)
 
 -- the two forms of an element that is written as short as may be
 pub short_form : (n p m : ℕ) → n < 256 → element_bytes false (element n p m) ≡ short_bytes (element n p m)
@@ -73,8 +93,3 @@ pub words_flat : (ns : List ℕ) → words_bytes ns ≡ flat_map word_bytes ns
 unfolding words_bytes
 words_flat [] = refl
 words_flat (n ∷ ns) = ap (λ t. word_bytes n ++ t) (words_flat ns)
-
-pub each_flat : (es : List Element) → each_bytes [] es ≡ flat_map (element_bytes false) es
-unfolding each_bytes
-each_flat [] = refl
-each_flat (e ∷ es) = ap (λ t. element_bytes false e ++ t) (each_flat es)

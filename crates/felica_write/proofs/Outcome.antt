@@ -13,7 +13,7 @@ use Rattle.felica_format.specs.Command.{Command}
 use Rattle.felica_format.specs.Layout.{Layout, class_of, layout_of}
 use Rattle.felica_format.specs.Write.{package_bytes, body_bytes, frame_of, secure_of}
 use Rattle.felica_format.specs.Writable.{body_ok, fits_class, writable, shortest, written}
-use Rattle.felica_format.proofs.Body.{Narrow}
+use Rattle.felica_format.proofs.Body.{Narrow, fits_of}
 use Rattle.felica_format.proofs.Rows.{every_layout, plain_package}
 use Rattle.felica_layout.specs.Layout.{row, row_of}
 use Rattle.felica_put.specs.Put.{buffer, put}
@@ -23,7 +23,7 @@ use Rattle.felica_write.specs.Size.{front_size}
 use Rattle.felica_write.specs.Body.{Ready}
 use Rattle.felica_write.specs.Head.{Room, head_bytes, frame_room, payload_room, room_for}
 use Rattle.felica_write.specs.Writing.{wrote, refused, Written, meaning, refusal, outcome, writing}
-use Rattle.felica_write.proofs.Ready.{ready, body_length}
+use Rattle.felica_write.proofs.Ready.{ready, all_package, body_length}
 
 -- the three outcomes
 module _ (c : Command) (out : List ℕ) where
@@ -65,7 +65,7 @@ module _ (c : Command) (k : Class) (l : Layout) (found : row k l ≡ row_of c.co
   narrow : Narrow l
   narrow = subst Narrow (sym layout_is) (every_layout c.code)
 
-  pub may_be_put : body_ok l c ≡ true → Ready l c
+  pub may_be_put : body_ok l c ≡ true → Ready c
   may_be_put = ready l c narrow
 
   frame_is : frame_of [] c ≡ suc (suc (length (body_bytes l [] c))) ∷ c.code ∷ body_bytes l [] c
@@ -89,7 +89,7 @@ module _ (c : Command) (k : Class) (l : Layout) (found : row k l ≡ row_of c.co
     plain_whole : k ≡ Plain → suc (suc (length (body_bytes l [] c))) ≡ 2 + size
     plain_whole e =
         let none = plain_package c.code c.issue_package (sym class_is ∙ e) in
-        let all = (ready l c narrow ok).all_package in
+        let all = all_package l.behind c.issue_package (fits_of l c ok).pack in
         let empty : length c.issue_package ≡ 0 = ap length (sym all ∙ ap (λ (m : Layout). package_bytes m.behind c.issue_package) layout_is ∙ none) in
         omega (arith, whole, empty)
 

@@ -51,7 +51,7 @@ all_data true m bs few ok =
     let long = eqb-true (length bs) (16 * m) (and_left _ _ ok) in
     (refl, omega arith)
 
-all_package : (b : Behind) (bs : List ℕ) → package_ok b bs ≡ true → package_bytes b bs ≡ bs
+pub all_package : (b : Behind) (bs : List ℕ) → package_ok b bs ≡ true → package_bytes b bs ≡ bs
 unfolding package_ok package_bytes
 all_package nothing bs ok = sym (is_empty_true bs ok)
 all_package ignored_bytes bs ok = sym (is_empty_true bs ok)
@@ -61,7 +61,7 @@ whole_challenge : (r : Ranges) (f : EndFields) → end_fields_ok r f ≡ true �
 unfolding end_fields_ok
 whole_challenge r f ok = eqb-true (length f.challenge) 16 (and_left _ _ (and_left _ _ (and_right _ _ (and_right _ _ (and_right _ _ (and_right _ _ ok))))))
 
-pub ready : (l : Layout) (c : Command) → Narrow l → body_ok l c ≡ true → Ready l c
+pub ready : (l : Layout) (c : Command) → Narrow l → body_ok l c ≡ true → Ready c
 unfolding same_length
 ready l c n ok =
     let h = fits_of l c ok in
@@ -79,12 +79,14 @@ ready l c n ok =
       modes_long = m;
       places_small = small.0;
       modes_small = small.1;
-      all_data = d.0;
       few_data = d.1;
-      few_fixed = n.ending;
-      whole_challenge = whole_challenge (ranges_of l.ending) (end_fields_of c) h.values;
-      all_package = all_package l.behind c.issue_package h.pack;
     }
+
+-- an IDm is put as data are
+pub idm_as_data : (there : Bool) (idm : List ℕ) → data_bytes there idm ≡ idm_bytes there idm
+unfolding data_bytes idm_bytes
+idm_as_data false idm = refl
+idm_as_data true idm = refl
 
 idm_length : (there : Bool) (idm : List ℕ) → idm_ok there idm ≡ true → length (idm_bytes there idm) ≡ cond there 8 0
 unfolding idm_ok idm_bytes
@@ -126,11 +128,11 @@ pub body_length : (l : Layout) (c : Command) → Narrow l → body_ok l c ≡ tr
 unfolding body_bytes
 body_length l c n ok =
     let h = fits_of l c ok in
-    let r = ready l c n ok in
     let a = idm_length l.idm c.idm h.idm in
     let b = selector_length l.selector c.selector in
     let f = codes_length l.first c.first in
     let s = codes_length l.second c.second in
     let e = elements_length l.elements c.numbers c.places c.modes in
-    let v = ending_length l.ending (end_fields_of c) n.ending r.whole_challenge in
-    simp (length-append, r.all_data, r.all_package, a, b, f, s, e, v) (omega arith)
+    let v = ending_length l.ending (end_fields_of c) n.ending (whole_challenge (ranges_of l.ending) (end_fields_of c) h.values) in
+    let d = all_data l.block_data (length (elements_of c)) c.block_data (few_elements l.elements (elements_of c) h.elements).0 h.block_data in
+    simp (length-append, d.0, all_package l.behind c.issue_package h.pack, a, b, f, s, e, v) (omega arith)

@@ -3,14 +3,11 @@
 use Rattle.std.specs.Prelude.{ℕ, ◌≤◌, ◌≡◌, true, length}
 use Rattle.felica_format.specs.Basic.{all_below}
 use Rattle.felica_format.specs.Command.{Command, Element}
-use Rattle.felica_format.specs.Layout.{Layout}
-use Rattle.felica_format.specs.Read.{size_of}
-use Rattle.felica_format.specs.Write.{data_bytes, package_bytes}
 
 abbrev pub element : ℕ → ℕ → ℕ → Element
 element number place mode = record { number = number; place = place; mode = mode }
 
-pub record Ready (l : Layout) (c : Command) : Type 0 where
+pub record Ready (c : Command) : Type 0 where
   pub few_first : length c.first ≤ 255
   pub few_second : length c.second ≤ 255
   pub few_blocks : length c.numbers ≤ 255
@@ -18,8 +15,4 @@ pub record Ready (l : Layout) (c : Command) : Type 0 where
   pub modes_long : length c.modes ≡ length c.numbers
   pub places_small : all_below 16 c.places ≡ true
   pub modes_small : all_below 8 c.modes ≡ true
-  pub all_data : data_bytes l.block_data c.block_data ≡ c.block_data
   pub few_data : length c.block_data ≤ 4080
-  pub few_fixed : size_of l.ending ≤ 16
-  pub whole_challenge : length c.challenge ≡ 16
-  pub all_package : package_bytes l.behind c.issue_package ≡ c.issue_package

@@ -1,17 +1,16 @@
 // The parts of a body, put into a buffer one behind the other.
 ghost use Rattle.std.specs.Prelude.{◌≡◌, true, false, [], ◌∷◌, ◌≤◌, ◌<◌, length};
 ghost use Rattle.felica_format.specs.Basic.{all_below, word_bytes};
-ghost use Rattle.felica_format.specs.Command.{end_fields, zip_elements};
-ghost use Rattle.felica_format.specs.Read.{size_of};
-ghost use Rattle.felica_format.specs.Write.{idm_bytes, selector_bytes, words_bytes, codes_bytes, element_bytes, elements_bytes, ending_bytes, body_bytes};
-ghost use Rattle.felica_layout.specs.Layout.{layout_meant, selector_meant, codes_meant, ending_meant};
+ghost use Rattle.felica_format.specs.Command.{end_fields, elements_of};
+ghost use Rattle.felica_format.specs.Write.{data_bytes, package_bytes, selector_bytes, words_bytes, codes_bytes, element_bytes, elements_bytes, ending_bytes, body_bytes};
+ghost use Rattle.felica_layout.specs.Layout.{layout_meant, selector_meant, codes_meant, ending_meant, behind_meant};
 ghost use Rattle.felica_put.specs.Output.{Puts};
 ghost use Rattle.felica_writable.specs.Handed.{handed_by};
 ghost use Rattle.felica_write.specs.Body.{Ready, element};
 
 use felica_command::fixed::Fixed;
 use felica_format::constants::Bounds;
-use felica_layout::{Ending, Layout, Selector};
+use felica_layout::{Behind, Ending, Layout, Selector};
 use felica_put::Output;
 use felica_writable::handed::Handed;
 
@@ -19,35 +18,31 @@ use felica_writable::handed::Handed;
 const LEAST_LONG: u16 = 256;
 
 pub(crate) fn put_body(out: &mut Output<'_, u8>, layout: Layout, command: Handed<'_>)
-    requires { Ready (layout_meant layout) (handed_by command) }
+    requires { Ready (handed_by command) }
     ensures { Puts out.old out.new (body_bytes (layout_meant layout) [] (handed_by command.entry)) }
 {
     let fixed = command.fixed;
-    put_idm(out, layout.idm, fixed.idm);
+    put_if(out, layout.idm, &fixed.idm);
     put_selector(out, layout.selector, fixed.selector);
     put_codes(out, layout.first, command.first);
     put_codes(out, layout.second, command.second);
-    put_elements(
-        out,
-        layout.elements,
-        command.numbers,
-        command.places,
-        command.modes,
-    );
-    // Data and package that the layout lacks are empty.
-    out.put_all(command.data);
+    put_elements(out, layout.elements, command);
+    put_if(out, layout.block_data, command.data);
     put_ending(out, layout.ending, fixed);
-    out.put_all(command.package);
+    put_package(out, layout.behind, command.package);
 }
 
-fn put_idm(out: &mut Output<'_, u8>, present: bool, idm: [u8; 8])
-    ensures { Puts out.old out.new (idm_bytes present idm) }
+// The IDm, or the data.
+#[tactic(auto, unfolding(felica_format::specs::Write::data_bytes, felica_put::specs::Put::put))]
+fn put_if(out: &mut Output<'_, u8>, present: bool, bytes: &[u8])
+    ensures { Puts out.old out.new (data_bytes present «bytes».now) }
 {
     if present {
-        out.put_all(&idm);
+        out.put_all(bytes);
     }
 }
 
+#[tactic(auto, unfolding(felica_format::specs::Write::selector_bytes, felica_put::specs::Put::put))]
 fn put_selector(out: &mut Output<'_, u8>, selector: Option<Selector>, value: u8)
     ensures { Puts out.old out.new (selector_bytes (selector_meant selector) value) }
 {
@@ -56,6 +51,7 @@ fn put_selector(out: &mut Output<'_, u8>, selector: Option<Selector>, value: u8)
     }
 }
 
+#[tactic(auto, unfolding(felica_format::specs::Write::codes_bytes, felica_put::specs::Put::put))]
 fn put_codes(out: &mut Output<'_, u8>, codes: Option<Bounds>, list: &[u16])
     requires { length list.now ≤ 255 }
     ensures { Puts out.old out.new (codes_bytes (codes_meant codes) list.now) }
@@ -77,6 +73,7 @@ fn put_counted(out: &mut Output<'_, u8>, list: &[u16])
 }
 
 // The low byte first. One by one, since a copy of two bytes takes twice as long.
+#[tactic(auto, unfolding(felica_put::specs::Put::put))]
 fn put_word(out: &mut Output<'_, u8>, word: u16)
     ensures { Puts out.old out.new (word_bytes word) }
 {
@@ -85,26 +82,22 @@ fn put_word(out: &mut Output<'_, u8>, word: u16)
     out.put(high);
 }
 
-fn put_elements(
-    out: &mut Output<'_, u8>,
-    present: bool,
-    numbers: &[u16],
-    places: &[u8],
-    modes: &[u8],
-)
-    requires few { length numbers.now ≤ 255 }
-    requires places_long { length places.now ≡ length numbers.now }
-    requires modes_long { length modes.now ≡ length numbers.now }
-    requires places_small { all_below 16 places.now ≡ true }
-    requires modes_small { all_below 8 modes.now ≡ true }
-    ensures { Puts out.old out.new (elements_bytes present [] (zip_elements numbers.now places.now modes.now)) }
+#[tactic(auto, unfolding(felica_format::specs::Write::elements_bytes, felica_put::specs::Put::put))]
+fn put_elements(out: &mut Output<'_, u8>, present: bool, command: Handed<'_>)
+    requires { Ready (handed_by command) }
+    ensures { Puts out.old out.new (elements_bytes present [] (elements_of (handed_by command.entry))) }
 {
     if !present {
         return;
     }
-    out.put(numbers.len() as u8);
-    for (i, &number) in numbers.iter().enumerate() {
-        put_element(out, number, places[i], modes[i]);
+    out.put(command.numbers.len() as u8);
+    for ((&number, &place), &mode) in command
+        .numbers
+        .iter()
+        .zip(command.places)
+        .zip(command.modes)
+    {
+        put_element(out, number, place, mode);
     }
 }
 
@@ -124,22 +117,34 @@ fn put_element(out: &mut Output<'_, u8>, number: u16, place: u8, mode: u8)
     }
 }
 
-fn put_ending(out: &mut Output<'_, u8>, ending: Ending, fixed: Fixed)
-    requires { size_of (ending_meant ending) ≤ 16 }
+#[tactic(auto, unfolding(felica_format::specs::Write::ending_bytes, felica_put::specs::Put::put))]
+fn put_ending(out: &mut Output<'_, u8>, ending: Option<Ending>, fixed: Fixed)
     ensures { Puts out.old out.new (ending_bytes (ending_meant ending) (end_fields fixed.number fixed.index fixed.option fixed.choice fixed.challenge)) }
 {
     match ending {
-        Ending::Bytes(count) => out.put_all(&fixed.challenge[..count]),
-        Ending::Word => put_word(out, fixed.number),
-        Ending::Words => {
+        None => {}
+        Some(Ending::EightBytes) => out.put_all(&fixed.challenge[..8]),
+        Some(Ending::SixteenBytes) => out.put_all(&fixed.challenge),
+        Some(Ending::Word) => put_word(out, fixed.number),
+        Some(Ending::Words) => {
             put_word(out, fixed.number);
             put_word(out, fixed.index);
         }
-        Ending::Reserved => out.put_all(b"\0\0"),
-        Ending::Polling => {
+        Some(Ending::Reserved) => out.put_all(b"\0\0"),
+        Some(Ending::Polling) => {
             let [high, low] = fixed.number.to_be_bytes();
             out.put_all(&[high, low, fixed.option, fixed.choice]);
         }
-        Ending::Parameter => out.put_all(&[0, 0, 0, 0, fixed.option, fixed.choice, 0, 0]),
+        Some(Ending::Parameter) => out.put_all(&[0, 0, 0, 0, fixed.option, fixed.choice, 0, 0]),
+    }
+}
+
+#[tactic(auto, unfolding(felica_format::specs::Write::package_bytes, felica_put::specs::Put::put))]
+fn put_package(out: &mut Output<'_, u8>, behind: Option<Behind>, package: &[u8])
+    ensures { Puts out.old out.new (package_bytes (behind_meant behind) «package».now) }
+{
+    match behind {
+        Some(Behind::Package) => out.put_all(package),
+        None | Some(Behind::IgnoredBytes) => {}
     }
 }

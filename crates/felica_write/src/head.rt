@@ -49,6 +49,7 @@ fn payload_room(size: usize, package: usize, room: usize) -> Result<(), Reason>
     Ok(())
 }
 
+#[tactic(auto, unfolding(felica_put::specs::Put::put))]
 pub(crate) fn put_head(out: &mut Output<'_, u8>, class: Class, code: u8, size: usize)
     requires { class ≡ Plain → 2 + size ≤ 255 }
     ensures { Puts out.old out.new (head_bytes class code size) }

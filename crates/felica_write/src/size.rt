@@ -13,7 +13,7 @@ use felica_writable::handed::Handed;
 
 // All but the package: 5,893 bytes at most, so that sums with it are safe.
 pub(crate) fn body_size(layout: Layout, command: Handed<'_>) -> usize
-    requires { Ready (layout_meant layout) (handed_by command) }
+    requires { Ready (handed_by command) }
     ensures size { result ≡ front_size (layout_meant layout) (length command.entry.first.now) (length command.entry.second.now) command.entry.numbers.now (length command.entry.data.now) }
     ensures bound { result ≤ 6000 }
 {
@@ -70,13 +70,15 @@ fn element_size(number: u16) -> usize
     if number < 256 { 2 } else { 3 }
 }
 
-fn ending_size(ending: Ending) -> usize
-    ensures { result ≡ size_of (ending_meant ending) }
+fn ending_size(ending: Option<Ending>) -> usize
+    ensures size { result ≡ size_of (ending_meant ending) }
+    ensures bound { result ≤ 16 }
 {
     match ending {
-        Ending::Bytes(count) => count,
-        Ending::Word | Ending::Reserved => 2,
-        Ending::Words | Ending::Polling => 4,
-        Ending::Parameter => 8,
+        None => 0,
+        Some(Ending::Word | Ending::Reserved) => 2,
+        Some(Ending::Words | Ending::Polling) => 4,
+        Some(Ending::EightBytes | Ending::Parameter) => 8,
+        Some(Ending::SixteenBytes) => 16,
     }
 }

@@ -1,11 +1,16 @@
 -- `felica_write::body::put_elements` meets its contract.
 -- Assumes nothing.
-use Rattle.std.proofs.Common.{false, take}
-use Rattle.std.specs.List.{flat_map}
-use Rattle.felica_format.specs.Command.{zip_elements}
-use Rattle.felica_format.specs.Write.{element_bytes}
-use Rattle.felica_put.specs.Output.{Puts}
+use Rattle.std.proofs.Common.{[]}
+use Rattle.std.specs.Iterator.Adapters.{zip_first, zip_second}
+use Rattle.std.specs.Slice.Iter.{iter_rest}
+use Rattle.felica_format.specs.Command.{elements_of}
+use Rattle.felica_format.specs.Write.{each_bytes}
+use Rattle.felica_writable.specs.Handed.{handed_by}
+use Rattle.felica_write.proofs.Elements.{Left}
 use Rattle.felica_write.proofs.body.put_elements.Given as goal
 
-abbrev pub invariant-loop-i : goal.invariant-loop-i
-invariant-loop-i l = Puts l.initial.out l.out (flat_map (element_bytes false) (take (l.i) (zip_elements l.numbers l.places l.modes)))
+abbrev pub invariant-loop-number : goal.invariant-loop-number
+invariant-loop-number l =
+    let pairs = zip_first l.number-iterator in
+    Left l.initial.out l.out (each_bytes [] (elements_of (handed_by l.command)))
+    (iter_rest (zip_first pairs)) (iter_rest (zip_second pairs)) (iter_rest (zip_second l.number-iterator))
