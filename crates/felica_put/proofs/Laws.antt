@@ -12,7 +12,6 @@ pub use Rattle.std.proofs.lemmas.List.{drop_more as drop_next}
 -- std has no name for it.
 use borrow.Rule.Slice.PartMut.{put_mid}
 use Rattle.std.proofs.lemmas.Slice.{put_mid-paste}
-use Rattle.std.proofs.Common.{min}
 use Rattle.felica_put.specs.Put.{BufferOf, buffer, put_byte, put}
 use Rattle.felica_put.specs.Output.{Puts, held}
 use Rattle.felica_put.specs.declared.Output.{Output}
@@ -40,11 +39,11 @@ unfolding put
 put_full [] l at full = refl
 put_full (v ∷ vs) l at full = rw (le-ltb _ _ full) (put_full vs l at full)
 
--- all is put where nothing is left of the list or of the room
-put_over : {A : Type 0} (rest l : List A) (at : ℕ) {all : BufferOf A} → (0 < length rest → length l ≤ at) → put (buffer l at) rest ≡ all → buffer l at ≡ all
+-- nothing is put where the list or the room has nothing left
+pub put_over : {A : Type 0} (rest l : List A) (at : ℕ) → (0 < length rest → length l ≤ at) → buffer l at ≡ put (buffer l at) rest
 unfolding put
-put_over [] l at full e = e
-put_over (v ∷ vs) l at full e = sym (put_full (v ∷ vs) l at (full (omega arith))) ∙ e
+put_over [] l at full = refl
+put_over (v ∷ vs) l at full = sym (put_full (v ∷ vs) l at (full (omega arith)))
 
 -- Where there is room, the text stands in the buffer, and what lies before and behind it keeps its value.
 put_sets : {A : Type 0} (vs l : List A) (at : ℕ) → at + length vs ≤ length l → put (buffer l at) vs ≡ buffer (sets l at vs) (at + length vs)
@@ -116,14 +115,18 @@ pub puts_nothing : {A : Type 0} {a : Output A} → Puts a a []
 unfolding put
 puts_nothing = record { same_reference = refl; held = refl }
 
--- a list put where only its first k items fit, or all of it
-pub put_fitting : {A : Type 0} (vs l now : List A) (at k n : ℕ) → at ≤ length l → k ≡ min (length vs) (length l - at) → n ≡ k → now ≡ take k vs
-    → buffer (put_mid at n l now) (at + k) ≡ put (buffer l at) vs
-put_fitting vs l now at k n room fits same is =
-    let short : length (take k vs) ≡ k = length-take-le k vs (omega arith) in
-    let front : put (buffer l at) (take k vs) ≡ buffer (put_mid at n l now) (at + k) =
-    put_room (take k vs) l at (omega arith)
-    ∙ rw (short, ← take_all k (take k vs) (omega arith)) (ap (λ m. buffer m (at + k)) (sym (put_mid-paste at n l now (take k vs) k is (sym same) (sym short)))) in
-    let long : length (put_mid at n l now) ≡ length l = ap (λ b. length b.bytes) (sym front) ∙ (kept (buffer l at) (take k vs)).long in
-    put_over (drop k vs) (put_mid at n l now) (at + k) (λ left. omega (arith, length-drop k vs)) refl
-    ∙ ap (λ b. put b (drop k vs)) (sym front) ∙ sym (put_append (buffer l at) (take k vs) (drop k vs)) ∙ ap (put (buffer l at)) (take-append-drop k vs)
+-- a list copied to where it finds room
+pub put_copied : {A : Type 0} (vs l now : List A) (at k n : ℕ) → at + length vs ≤ length l → k ≡ length vs → n ≡ at + length vs → now ≡ vs → buffer (put_mid at k l now) n ≡ put (buffer l at) vs
+put_copied vs l now at k n fits same end is =
+    rw (end) (ap (λ m. buffer m (at + length vs)) (put_mid-paste at k l now vs (length vs) is (sym same) refl)
+    ∙ ap (λ ws. buffer (take at l ++ ws ++ drop (at + length vs) l) (at + length vs)) (take_all (length vs) vs (omega arith)) ∙ sym (put_room vs l at fits))
+
+-- what is left out where the first k items fill the room
+pub put_first : {A : Type 0} (vs l : List A) (at k : ℕ) → at + k ≡ length l → k ≤ length vs → put (buffer l at) (take k vs) ≡ put (buffer l at) vs
+put_first vs l at k full more =
+    let some = take k vs in
+    let short : length some ≡ k = length-take-le k vs more in
+    let filled : put (buffer l at) some ≡ buffer (take at l ++ some ++ drop (at + length some) l) (at + length some) = put_room some l at (omega arith) in
+    let long : length (take at l ++ some ++ drop (at + length some) l) ≡ length l = ap (λ b. length b.bytes) (sym filled) ∙ (kept (buffer l at) some).long in
+    filled ∙ put_over (drop k vs) _ (at + length some) (λ left. omega arith)
+    ∙ ap (λ b. put b (drop k vs)) (sym filled) ∙ sym (put_append (buffer l at) some (drop k vs)) ∙ ap (put (buffer l at)) (take-append-drop k vs)

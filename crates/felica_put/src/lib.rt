@@ -1,7 +1,7 @@
 // Numbers put into a lent buffer, one behind the other; where it is full the rest is left out.
 #![tactic(auto)]
 
-ghost use Rattle.std.specs.Prelude.{◌≡◌, [], ◌∷◌, take};
+ghost use Rattle.std.specs.Prelude.{◌≡◌, ◌+◌, ◌≤◌, length, [], ◌∷◌, take};
 ghost use Rattle.felica_put.specs.Put.{buffer};
 ghost use Rattle.felica_put.specs.Output.{Puts, held};
 
@@ -30,15 +30,29 @@ impl<'a, T: Copy> Output<'a, T> {
         }
     }
 
+    // Where all find room the compiler may know how many they are, and then copies them without a call.
     pub fn put_all(&mut self, items: &[T])
         ensures { Puts self.old self.new items.now }
     {
-        if self.room.len() <= self.len {
+        if items.is_empty() || self.room.len() <= self.len {
             return;
         }
-        let count = items.len().min(self.room.len() - self.len);
-        self.room[self.len..self.len + count].copy_from_slice(&items[..count]);
-        self.len += count;
+        let left = self.room.len() - self.len;
+        if items.len() <= left {
+            self.copy(items);
+        } else {
+            self.copy(&items[..left]);
+        }
+    }
+
+    // Items that find room.
+    fn copy(&mut self, items: &[T])
+        requires fitting { self.old.len + length items.now ≤ length self.old.room.now }
+        ensures { Puts self.old self.new items.now }
+    {
+        let end = self.len + items.len();
+        self.room[self.len..end].copy_from_slice(items);
+        self.len = end;
     }
 
     // What has been put into it.
