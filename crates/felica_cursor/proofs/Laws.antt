@@ -1,9 +1,9 @@
 -- Laws of the steps on the bytes that are left at a position.
 -- Assumes nothing.
-use Rattle.std.proofs.Common.{◌≡◌, refl, sym, ap, ◌∙◌, Bool, true, false, not, List, [], ◌∷◌, ℕ, zero, suc, ◌+◌, ◌<◌, ◌≤◌, add-one, add-zero, add-suc, arith, ◌&&◌, ltb, leb, eqb, length, get_or, take, drop, drop-cons, drop-drop, get_or-drop, leb-true, leb-false, lt-ltb, le-ltb, Result, Ok, Err, IsErr, IsErrAnd}
+use Rattle.std.proofs.Common.{◌≡◌, refl, sym, ap, ◌∙◌, subst, Bool, true, false, not, List, [], ◌∷◌, ℕ, zero, suc, ◌+◌, ◌<◌, ◌≤◌, add-one, add-zero, add-suc, arith, ◌&&◌, ltb, leb, eqb, length, get_or, take, drop, drop-cons, drop-drop, get_or-drop, leb-true, leb-false, lt-ltb, le-ltb, Result, Ok, Err, IsErr, IsErrAnd}
 use Rattle.std.specs.List.{list_all}
 use Rattle.std.proofs.lemmas.Result.{err_from_is_err_and}
-use Rattle.felica_format.specs.Basic.{Step, taken, refuse, refuse_if, zeros, word_of, word_at, ◌and◌}
+use Rattle.felica_format.specs.Basic.{Step, taken, refuse, bind, refuse_if, zeros, word_of, word_at, ◌and◌}
 use Rattle.felica_format.specs.Command.{EndFields, end_fields, no_fields}
 use Rattle.felica_format.specs.Layout.{Ending, bare, polling, nothing, a_package}
 use Rattle.felica_format.specs.Read.{words_of, read_long, read_short, read_ending, read_values, size_of, zero_at, is_time_slots}
@@ -11,7 +11,7 @@ use Rattle.felica_format.proofs.Steps.{none_taken}
 use Rattle.felica_command.specs.Places.{element_size, elements_size}
 use Rattle.felica_format.specs.Reasons.{number_of}
 use Rattle.felica_format.specs.declared.error.Reason.{Reason}
-use Rattle.felica_cursor.specs.Taken.{rest, Takes, To}
+use Rattle.felica_cursor.specs.Taken.{rest, moved, itself, Takes, To}
 use Rattle.felica_cursor.specs.Steps.{measured, Measured}
 use Rattle.felica_cursor.specs.Endings.{as_size, nothing_is}
 use Rattle.felica_cursor.specs.declared.cursor.Cursor.{Cursor}
@@ -89,6 +89,15 @@ no_words n l e = rw e
 pub refused : {T A : Type 0} {meant : T → A} {step : Step A} {P : T → Cursor → Type 0} (why : Reason) (r : Result (T × Cursor) Reason)
     → IsErr r × IsErrAnd r (λ y. y ≡ why) → step ≡ refuse (number_of why) → Takes meant step P r
 refused why r is read = let p = err_from_is_err_and r is.1 in rw (p.1, p.2) (record { read = read; placed = tt })
+
+-- a list behind its count: the two steps are one
+pub behind_count : {T A : Type 0} (meant : List ℕ → T → A) (step : ℕ → List ℕ → Step A) (P : Cursor → T → Cursor → Type 0) (count : Step ℕ) (c b : Cursor) (n : ℕ)
+    (r : Result (T × Cursor) Reason) → Takes itself count (To (moved c 1)) (Ok (n, b)) → Takes (meant b.payload.now) (step n (rest b)) (P b) r
+    → Takes (meant c.payload.now) (bind count step) (P (moved c 1)) r
+unfolding bind
+behind_count meant step P count c b n r first list =
+    let there = subst (λ (x : Cursor). Takes (meant x.payload.now) (step n (rest x)) (P x) r) first.placed list in
+    record { read = rw (first.read, first.placed) there.read; placed = there.placed }
 
 -- the fixed bytes that end a layout, once they are measured
 refused_both : {A B : Type 0} (a b : Bool) (x : Step A) (y : Step B) (v : A) (l : List ℕ) (g : ℕ) → x ≡ taken v l

@@ -64,6 +64,7 @@ pub struct CountReasons {
     pub out_of_range: Reason,
 }
 
+// First and second in field order: a secure block count is a first.
 pub const FIRST_COUNT: CountReasons = CountReasons {
     missing: Reason::FirstCountMissing,
     out_of_range: Reason::FirstCountOutOfRange,
@@ -154,7 +155,8 @@ impl<'a> Cursor<'a> {
         Ok((count, Cursor { at, ..self }))
     }
 
-    // The count of a list of codes, within the bounds of a plain code's row. The row comes by number: one table of 25 rows holds the bounds, and a caller may name any row.
+    // The count of a list of codes, within the bounds of a plain code's row. The row is a number: the bounds stand in one table of 25 rows, and a type for the rows would ask more of
+    // callers, who may give any number.
     pub fn take_count(self, row: usize, reasons: CountReasons) -> Taken<'a, u8>
         ensures { Takes itself (read_count_for reasons (bounds_at row) (rest self.entry)) (To (moved self.entry 1)) result }
     {

@@ -88,7 +88,7 @@ impl<'a> Cursor<'a> {
         Ok(((), Cursor { at, ..self }))
     }
 
-    // Bytes with zeros behind them, and maybe a package behind the bytes.
+    // The next bytes, with zeros behind them up to 16. A package may stand behind the bytes.
     fn take_challenge(self, size: usize) -> Taken<'a, [u8; 16]>
         requires { (0 < size) × (size ≤ 16) }
         ensures { Takes challenge_is (read_ending (bytes size) a_package (rest self.entry)) (To (moved self.entry size)) result }
@@ -102,7 +102,7 @@ impl<'a> Cursor<'a> {
         Ok((challenge, Cursor { at, ..self }))
     }
 
-    // The challenge of Authentication1 and 2: eight bytes, with eight zeros behind them. The sizes have a name each, since a step for any size would ask that it is 16 at most.
+    // The challenge of Authentication1 and 2: eight bytes, with eight zeros behind them. Each size has its step, since one for any size would ask callers that it is 16 at most.
     pub fn take_challenge_8(self) -> Taken<'a, [u8; 16]>
         ensures { Takes challenge_is (read_ending (bytes 8) nothing (rest self.entry)) (To (moved self.entry 8)) result }
     {

@@ -1,7 +1,6 @@
 // The port of parse_secure_payload of command/parse.rs: a secure code with its decrypted payload.
 #![tactic(auto)]
 
-ghost use Rattle.std.specs.Prelude.{◌≡◌};
 ghost use Rattle.felica_format.specs.Read.{read_secure};
 ghost use Rattle.felica_command.specs.Places.{Account, ParserAccount};
 ghost use Rattle.felica_cursor.specs.Taken.{rest};

@@ -1,14 +1,13 @@
 -- `Cursor::take_block_list` meets its contract.
 -- Assumes nothing.
-use Rattle.std.proofs.Common.{◌≡◌, ◌-◌, length, refl, subst, arith}
+use Rattle.std.proofs.Common.{◌≡◌, ◌-◌, length, refl, arith}
 use Rattle.std.proofs.lemmas.List.{length-drop}
 use Rattle.felica_format.specs.Basic.{bind}
 use Rattle.felica_format.specs.Read.{read_each, read_elements}
-use Rattle.felica_cursor.specs.Taken.{rest, Takes}
+use Rattle.felica_cursor.specs.Taken.{rest}
 use Rattle.felica_cursor.specs.Steps.{elements_in, ElementsFrom}
-use Rattle.felica_cursor.specs.declared.cursor.Cursor.{Cursor}
 use Rattle.felica_cursor.proofs.Few.{count_taken}
-use Rattle.felica_cursor.proofs.Laws.{refused}
+use Rattle.felica_cursor.proofs.Laws.{refused, behind_count}
 use Rattle.felica_cursor.proofs.cursor.Cursor.take_block_list.Goals as goal
 
 pub returns-in_err-count : goal.returns-in_err-count
@@ -23,15 +22,9 @@ take_few-requires c =
     rw c.in_ok-count.ensures.placed (omega (arith, least), omega arith, omega (arith, there, left))
 
 pub returns-then-count-lt-MANY : goal.returns-then-count-lt-MANY
-unfolding read_elements bind
-returns-then-count-lt-MANY c =
-    let first = c.in_ok-count.ensures in
-    let list = subst (λ (b : Cursor). Takes (elements_in b.payload.now) (read_each c.in_ok-count.count (rest b)) (ElementsFrom b) c.take_few.result) first.placed c.take_few.ensures in
-    record { read = rw (first.read, first.placed) list.read; placed = list.placed }
+unfolding read_elements
+returns-then-count-lt-MANY c = behind_count elements_in read_each ElementsFrom _ _ _ _ _ c.in_ok-count.ensures c.take_few.ensures
 
 pub returns : goal.returns
-unfolding read_elements bind
-returns c =
-    let first = c.in_ok-count.ensures in
-    let list = subst (λ (b : Cursor). Takes (elements_in b.payload.now) (read_each c.in_ok-count.count (rest b)) (ElementsFrom b) c.take_elements.result) first.placed c.take_elements.ensures in
-    record { read = rw (first.read, first.placed) list.read; placed = list.placed }
+unfolding read_elements
+returns c = behind_count elements_in read_each ElementsFrom _ _ _ _ _ c.in_ok-count.ensures c.take_elements.ensures
