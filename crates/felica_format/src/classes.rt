@@ -275,6 +275,7 @@ static CLASSES: [Class; 256] = [
     UNKNOWN, // FF
 ];
 
+#[tactic(auto, using(crate::proofs::ClassTable::class_at), unfolding(crate::proofs::ClassTable::classes))]
 pub fn class_of(code: u8) -> Class
     ensures { result ≡ class_of code }
 {
