@@ -12,7 +12,6 @@ use Rattle.felica_calls.specs.Source.{read_source, behind_source, read_command_c
 use Rattle.felica_calls.specs.Write.{max_room}
 use Rattle.felica_calls.specs.Call.{read_asked, read_list, read_call, count_of}
 use Rattle.felica_calls.specs.declared.fault.Fault.{Fault}
-use Rattle.felica_calls.specs.declared.fault.Fault.TheVariants.{ExtraField}
 use Rattle.felica_calls.specs.declared.source.Source.{Source}
 use Rattle.felica_calls.specs.declared.call.Call.{Call}
 use Rattle.felica_calls.specs.declared.call.Call.TheVariants.{Parse, Long, List as ListCall, Write}
@@ -24,8 +23,11 @@ either P true a b p q = p
 either P false a b p q = q refl
 
 -- a length is at most that of the longest buffer
+abbrev Short : ℕ → Type 0
+Short n = n ≤ max_lent
+
 abbrev Below : Result ℕ Fault → Type 0
-Below r = IfOk r (λ n. n ≤ max_lent)
+Below r = IfOk r Short
 
 size_below : (s : List ℕ) → Below (next_size s)
 unfolding read_number
@@ -36,20 +38,12 @@ size_below s =
     either Below (ltb max_lent (decimal_from 0 field)) _ _ tt λ c.
     ltb-false max_lent (decimal_from 0 field) c
 
--- so are all five
-all_below : (first second numbers places modes : Result ℕ Fault) (over : Bool) → Below first → Below second → Below numbers → Below places → Below modes
-    → IfOk
-    (first >>= λ f. second >>= λ g. numbers >>= λ n. places >>= λ p. modes >>= λ m.
-    cond over (Ok (record { first = f; second = g; numbers = n; places = p; modes = m })) (Err ExtraField))
-    Lent
-all_below (Ok f) (Ok g) (Ok n) (Ok p) (Ok m) true a b c d e = (a, b, c, d, e)
-all_below (Ok f) (Ok g) (Ok n) (Ok p) (Ok m) false a b c d e = tt
-all_below (Ok f) (Ok g) (Ok n) (Ok p) (Err fault) over a b c d e = tt
-all_below (Ok f) (Ok g) (Ok n) (Err fault) modes over a b c d e = tt
-all_below (Ok f) (Ok g) (Err fault) places modes over a b c d e = tt
-all_below (Ok f) (Err fault) numbers places modes over a b c d e = tt
-all_below (Err fault) second numbers places modes over a b c d e = tt
+-- what holds of the value of a `?` and, with it, of what follows
+then_ok : {A B : Type 0} (P : A → Type 0) (Q : B → Type 0) (r : Result A Fault) (f : A → Result B Fault) → IfOk r P → ((a : A) → P a → IfOk (f a) Q) → IfOk (r >>= f) Q
+then_ok P Q (Ok a) f p q = q a p
+then_ok P Q (Err fault) f p q = tt
 
+-- so are all five
 sizes_below : (s : List ℕ) → IfOk (read_sizes s) Lent
 unfolding read_sizes
 sizes_below s =
@@ -57,8 +51,12 @@ sizes_below s =
     let s₂ = behind_next s₁ in
     let s₃ = behind_next s₂ in
     let s₄ = behind_next s₃ in
-    all_below (next_size s) (next_size s₁) (next_size s₂) (next_size s₃) (next_size s₄) (eqb (length (behind_next s₄)) 0)
-    (size_below s) (size_below s₁) (size_below s₂) (size_below s₃) (size_below s₄)
+    then_ok Short Lent (next_size s) _ (size_below s) λ f a.
+    then_ok Short Lent (next_size s₁) _ (size_below s₁) λ g b.
+    then_ok Short Lent (next_size s₂) _ (size_below s₂) λ n c.
+    then_ok Short Lent (next_size s₃) _ (size_below s₃) λ p d.
+    then_ok Short Lent (next_size s₄) _ (size_below s₄) λ m e.
+    either (λ r. IfOk {E = Fault} r Lent) (eqb (length (behind_next s₄)) 0) _ _ (a, b, c, d, e) λ _. tt
 
 -- what holds of a value and what the buffer holds with it
 abbrev Has : {A : Type 0} → (A → List ℕ → Type 0) → Read A → Type 0
