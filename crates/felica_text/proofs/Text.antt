@@ -1,9 +1,8 @@
 -- Text of bytes, and the decimal digits of a number by its last digit.
 -- Assumes nothing.
-use Rattle.std.proofs.Common.{ℕ, zero, suc, ◌+◌, ◌*◌, ◌/◌, ◌%◌, ◌≤◌, ◌<◌, ◌≡◌, refl, sym, ap, ◌∙◌, Bool, true, false, List, [], ◌∷◌, ◌++◌, length, arith, length-append}
-use Rattle.std.proofs.Math.Dec.{ltb}
+use Rattle.std.proofs.Common.{ℕ, zero, suc, ◌+◌, ◌*◌, ◌/◌, ◌%◌, ◌≤◌, ◌<◌, ◌≡◌, refl, sym, ap, ◌∙◌, List, [], ◌∷◌, ◌++◌, length, arith, length-append}
 use Rattle.std.proofs.Math.Nat.{not-suc-le-zero}
-use Rattle.std.proofs.lemmas.Bool.{lt-ltb, le-ltb, ltb-true, ltb-false}
+use Rattle.std.proofs.lemmas.Bool.{lt-ltb, le-ltb}
 use Rattle.std.proofs.lemmas.Bool.Decides.{nat_tests}
 use Rattle.felica_text.specs.Text.{text, digits_text, bytes_text, decimal_digits, decimal_text}
 
@@ -54,10 +53,4 @@ tens (suc k) = 10 * tens k
 
 pub decimal_length : (k n : ℕ) → n < tens k → length (decimal_text n) ≤ suc k
 decimal_length zero n h = rw (decimal_small n h) (omega arith)
-decimal_length (suc k) n h = go (ltb n 10) refl (decimal_length k (n / 10))
-  where
-    go : (b : Bool) → ltb n 10 ≡ b → (n / 10 < tens k → length (decimal_text (n / 10)) ≤ suc k) → length (decimal_text n) ≤ suc (suc k)
-    go true e ih = rw (decimal_small n (ltb-true n 10 e)) (omega arith)
-    go false e ih =
-        let rest = ih (omega arith) in
-        rw (decimal_more n (ltb-false n 10 e), length-append (decimal_text (n / 10)) ((48 + n % 10) ∷ [])) (omega arith)
+decimal_length (suc k) n h = grind (arith, nat_tests, decimal_small n, decimal_more n, decimal_length k (n / 10), length-append {A = ℕ})
