@@ -1,18 +1,18 @@
 -- A call has no more bytes than the buffer that they were written to, and lends no buffer that is too long.
 -- Assumes nothing.
-use Rattle.std.proofs.Common.{ℕ, ◌≤◌, ◌/◌, ◌%◌, ◌≡◌, refl, sym, subst, arith, zero-le, Bool, true, false, not, cond, List, length, drop, ltb, eqb, ltb-false, length-append, length-drop}
+use Rattle.std.proofs.Common.{ℕ, ◌≤◌, ◌/◌, ◌≡◌, refl, sym, subst, arith, zero-le, Bool, true, false, cond, List, length, drop, eqb, length-append, length-drop}
+use Rattle.std.proofs.lemmas.Bool.Decides.{nat_tests}
 use Rattle.std.specs.Prelude.{Result, Ok, Err, IfOk}
 use Rattle.felica_text.specs.Text.{text}
 use Rattle.felica_calls.specs.Read.{Read, read, if_ok, read_in, ◌>>=◌}
 use Rattle.felica_calls.specs.Field.{field_of, behind_field, next_field, behind_next, is_byte, is_name}
-use Rattle.felica_calls.specs.Number.{all_decimal, decimal_from, read_number}
+use Rattle.felica_calls.specs.Number.{read_number}
 use Rattle.felica_calls.specs.Sizes.{max_lent, Lent, next_size, read_sizes}
-use Rattle.felica_calls.specs.Bytes.{all_digits, bytes_of, read_bytes, read_last}
+use Rattle.felica_calls.specs.Bytes.{bytes_of, read_bytes, read_last}
 use Rattle.felica_calls.specs.Source.{read_source, behind_source, read_command_code}
 use Rattle.felica_calls.specs.Write.{max_room}
 use Rattle.felica_calls.specs.Call.{read_asked, read_list, read_call, count_of}
 use Rattle.felica_calls.specs.declared.fault.Fault.{Fault}
-use Rattle.felica_calls.specs.declared.fault.Fault.TheVariants.{ExtraField}
 use Rattle.felica_calls.specs.declared.source.Source.{Source}
 use Rattle.felica_calls.specs.declared.call.Call.{Call}
 use Rattle.felica_calls.specs.declared.call.Call.TheVariants.{Parse, Long, List as ListCall, Write}
@@ -24,32 +24,22 @@ either P true a b p q = p
 either P false a b p q = q refl
 
 -- a length is at most that of the longest buffer
+abbrev Short : ℕ → Type 0
+Short n = n ≤ max_lent
+
 abbrev Below : Result ℕ Fault → Type 0
-Below r = IfOk r (λ n. n ≤ max_lent)
+Below r = IfOk r Short
 
 size_below : (s : List ℕ) → Below (next_size s)
 unfolding read_number
-size_below s =
-    let field = next_field s in
-    either Below (eqb (length field) 0) _ _ tt λ a.
-    either Below (not (all_decimal field)) _ _ tt λ b.
-    either Below (ltb max_lent (decimal_from 0 field)) _ _ tt λ c.
-    ltb-false max_lent (decimal_from 0 field) c
+size_below s = grind (arith, nat_tests)
+
+-- what holds of the value of a `?` and, with it, of what follows
+then_ok : {A B : Type 0} (P : A → Type 0) (Q : B → Type 0) (r : Result A Fault) (f : A → Result B Fault) → IfOk r P → ((a : A) → P a → IfOk (f a) Q) → IfOk (r >>= f) Q
+then_ok P Q (Ok a) f p q = q a p
+then_ok P Q (Err fault) f p q = tt
 
 -- so are all five
-all_below : (first second numbers places modes : Result ℕ Fault) (over : Bool) → Below first → Below second → Below numbers → Below places → Below modes
-    → IfOk
-    (first >>= λ f. second >>= λ g. numbers >>= λ n. places >>= λ p. modes >>= λ m.
-    cond over (Ok (record { first = f; second = g; numbers = n; places = p; modes = m })) (Err ExtraField))
-    Lent
-all_below (Ok f) (Ok g) (Ok n) (Ok p) (Ok m) true a b c d e = (a, b, c, d, e)
-all_below (Ok f) (Ok g) (Ok n) (Ok p) (Ok m) false a b c d e = tt
-all_below (Ok f) (Ok g) (Ok n) (Ok p) (Err fault) over a b c d e = tt
-all_below (Ok f) (Ok g) (Ok n) (Err fault) modes over a b c d e = tt
-all_below (Ok f) (Ok g) (Err fault) places modes over a b c d e = tt
-all_below (Ok f) (Err fault) numbers places modes over a b c d e = tt
-all_below (Err fault) second numbers places modes over a b c d e = tt
-
 sizes_below : (s : List ℕ) → IfOk (read_sizes s) Lent
 unfolding read_sizes
 sizes_below s =
@@ -57,8 +47,12 @@ sizes_below s =
     let s₂ = behind_next s₁ in
     let s₃ = behind_next s₂ in
     let s₄ = behind_next s₃ in
-    all_below (next_size s) (next_size s₁) (next_size s₂) (next_size s₃) (next_size s₄) (eqb (length (behind_next s₄)) 0)
-    (size_below s) (size_below s₁) (size_below s₂) (size_below s₃) (size_below s₄)
+    then_ok Short Lent (next_size s) _ (size_below s) λ f a.
+    then_ok Short Lent (next_size s₁) _ (size_below s₁) λ g b.
+    then_ok Short Lent (next_size s₂) _ (size_below s₂) λ n c.
+    then_ok Short Lent (next_size s₃) _ (size_below s₃) λ p d.
+    then_ok Short Lent (next_size s₄) _ (size_below s₄) λ m e.
+    either (λ r. IfOk {E = Fault} r Lent) (eqb (length (behind_next s₄)) 0) _ _ (a, b, c, d, e) λ _. tt
 
 -- what holds of a value and what the buffer holds with it
 abbrev Has : {A : Type 0} → (A → List ℕ → Type 0) → Read A → Type 0
@@ -83,17 +77,11 @@ Fit n held = n ≤ length held
 
 bytes_fit : (s held : List ℕ) → Has Fit (read_bytes s held)
 unfolding read_bytes
-bytes_fit s held =
-    either (Has Fit) (eqb (length s) 0) _ _ tt λ a.
-    either (Has Fit) (is_byte 45 s) _ _ zero-le λ b.
-    either (Has Fit) (not (all_digits s)) _ _ tt λ c.
-    either (Has Fit) (eqb (length s % 2) 1) _ _ tt λ d.
-    either (Has Fit) (ltb (length held) (length s / 2)) _ _ tt λ e.
-    omega (arith, ltb-false (length held) (length s / 2) e, length-append (bytes_of s) (drop (length s / 2) held), length_bytes s, length-drop (length s / 2) held)
+bytes_fit s held = grind (arith, nat_tests, length-append (bytes_of s) (drop (length s / 2) held), length_bytes s, length-drop (length s / 2) held)
 
 last_fit : (s held : List ℕ) → Has Fit (read_last s held)
 unfolding read_last
-last_fit s held = either (Has Fit) (ltb (length (next_field s)) (length (drop 1 s))) _ _ tt λ b. bytes_fit (drop 1 s) held
+last_fit s held = grind (arith, nat_tests, bytes_fit (drop 1 s) held)
 
 abbrev AskedFit : Source × ℕ → List ℕ → Type 0
 AskedFit p held = p.1 ≤ length held

@@ -1,25 +1,20 @@
 -- Decimal digits on a walk along a field, and the number that they come to.
 -- Assumes nothing.
-use Rattle.std.proofs.Common.{ℕ, ◌+◌, ◌-◌, ◌*◌, ◌≤◌, ◌<◌, ◌≡◌, refl, Bool, true, false, ◌&&◌, List, [], ◌∷◌, length, get_or, drop, arith, lt-ltb, leb-true, ne_eqb}
+use Rattle.std.proofs.Common.{ℕ, ◌+◌, ◌-◌, ◌*◌, ◌≤◌, ◌<◌, ◌≡◌, true, List, [], ◌∷◌, length, get_or, drop, arith, lt-ltb, ne_eqb}
 use Rattle.std.specs.Prelude.{Err}
 use Rattle.std.proofs.Math.ListN.{drop_of_length-le}
+use Rattle.std.proofs.lemmas.Bool.Decides.{nat_tests}
 use Rattle.std.proofs.lemmas.List.{drop_more}
 use Rattle.felica_calls.specs.Number.{all_decimal, decimal_from, read_number}
 use Rattle.felica_calls.specs.declared.fault.Fault.TheVariants.{BufferTooLong}
-
-all_three : (a b c : Bool) → ((a && b) && c) ≡ true → (a ≡ true) × (b ≡ true) × (c ≡ true)
-all_three true true true e = (refl, refl, refl)
-all_three true true false e = cc
-all_three true false c e = cc
-all_three false b c e = cc
 
 module _ (s : List ℕ) (i : ℕ) (h : i < length s) where
   -- what is known of a digit, and of those behind it
   pub digit_is : all_decimal (drop i s) ≡ true → (48 ≤ get_or s i 0) × (get_or s i 0 ≤ 57) × (all_decimal (drop (i + 1) s) ≡ true)
   unfolding all_decimal
   digit_is e =
-      let (low, high, rest) = all_three _ _ _ (rw (drop_more s i 0 h) at e) in
-      (leb-true _ _ low, leb-true _ _ high, rest)
+      let e₁ = rw (drop_more s i 0 h) at e in
+      grind (arith, nat_tests, e₁)
 
   pub decimal_next : (n : ℕ) → decimal_from n (drop i s) ≡ decimal_from (10 * n + (get_or s i 0 - 48)) (drop (i + 1) s)
   unfolding decimal_from

@@ -1,7 +1,8 @@
 -- Digits and bytes, and the parts of a line.
 -- Assumes nothing.
-use Rattle.std.proofs.Common.{ℕ, ◌-◌, ◌/◌, ◌%◌, ◌≤◌, ◌<◌, ◌≡◌, refl, ap, ◌∙◌, Bool, true, false, cond, ltb, leb, List, [], ◌∷◌, ◌++◌, length, get_or, take, drop, arith, ltb-false, leb-true, ne_eqb, le-ltb}
-use Rattle.std.specs.Prelude.{Ok, Some, None}
+use Rattle.std.proofs.Common.{ℕ, ◌-◌, ◌/◌, ◌%◌, ◌≤◌, ◌<◌, ◌≡◌, refl, ap, ◌∙◌, true, false, List, [], ◌∷◌, ◌++◌, length, get_or, take, drop, arith, ne_eqb, le-ltb}
+use Rattle.std.proofs.lemmas.Bool.Decides.{nat_tests}
+use Rattle.std.specs.Prelude.{Ok}
 use Rattle.felica_text.specs.Text.{digit_of}
 use Rattle.felica_put.specs.Put.{Buffer, buffer, put}
 use Rattle.felica_put.proofs.Laws.{put_front, take_rest}
@@ -10,16 +11,8 @@ use Rattle.felica_calls.specs.Read.{read}
 use Rattle.felica_calls.specs.Bytes.{value_of, byte_of, bytes_of, all_digits, read_bytes}
 
 -- a digit's value is below 16
-small : (d : ℕ) (a b c e : Bool) → ltb d 48 ≡ a → leb d 57 ≡ b → ltb d 65 ≡ c → leb d 70 ≡ e
-    → value_of (cond a None (cond b (Some (d - 48)) (cond c None (cond e (Some (d - 55)) None)))) < 16
-small d true b c e ha hb hc he = omega arith
-small d false true c e ha hb hc he = omega (arith, ltb-false, leb-true)
-small d false false true e ha hb hc he = omega arith
-small d false false false true ha hb hc he = omega (arith, ltb-false, leb-true)
-small d false false false false ha hb hc he = omega arith
-
 pub value_small : (d : ℕ) → value_of (digit_of d) < 16
-value_small d = small d (ltb d 48) (leb d 57) (ltb d 65) (leb d 70) refl refl refl refl
+value_small d = grind (arith, nat_tests)
 
 pub length_bytes : (s : List ℕ) → length (bytes_of s) ≡ length s / 2
 unfolding bytes_of

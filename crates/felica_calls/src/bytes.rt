@@ -55,6 +55,7 @@ pub fn decode(field: &[u8], bytes: &mut Output<u8>)
     }
 }
 
+#[tactic(auto, unfolding(crate::specs::Bytes::all_digits))]
 pub fn all_digits(field: &[u8]) -> bool
     ensures { result ≡ all_digits field.now }
 {

@@ -26,6 +26,7 @@ pub(crate) fn read_number(field: &[u8], most: usize) -> Result<usize, Fault>
     Ok(value)
 }
 
+#[tactic(auto, unfolding(crate::specs::Number::all_decimal))]
 fn all_decimal(field: &[u8]) -> bool
     ensures { result ≡ all_decimal field.now }
 {

@@ -1,10 +1,10 @@
 -- What is put into a buffer, piece after piece.
 -- Assumes nothing.
-use Rattle.std.proofs.Common.{ℕ, suc, ◌+◌, ◌-◌, ◌≤◌, ◌<◌, ◌≡◌, refl, sym, ap, ◌∙◌, Bool, true, false, List, [], ◌∷◌, ◌++◌, zero-add, add-one, arith}
+use Rattle.std.proofs.Common.{ℕ, suc, ◌+◌, ◌-◌, ◌≤◌, ◌<◌, ◌≡◌, refl, sym, ap, ◌∙◌, List, [], ◌∷◌, ◌++◌, zero-add, add-one, arith}
 use Rattle.std.proofs.Common.{length, set, take, drop, length-append, length-drop}
-use Rattle.std.proofs.Math.Dec.{ltb}
 use Rattle.std.proofs.Math.Seq.{take-append_seam}
-use Rattle.std.proofs.lemmas.Bool.{lt-ltb, le-ltb, ltb-true}
+use Rattle.std.proofs.lemmas.Bool.{lt-ltb, le-ltb}
+use Rattle.std.proofs.lemmas.Bool.Decides.{nat_tests}
 use Rattle.std.proofs.lemmas.List.{drop-set-lt, length-set, length-take-le, take_all, take-append-drop}
 use Rattle.std.proofs.lemmas.List.Edits.{sets, sets-eq}
 -- one more entry of a list
@@ -79,22 +79,19 @@ pub record Kept {A : Type 0} (b c : BufferOf A) : Type 0 where
   pub within : b.next ≤ length b.bytes → c.next ≤ length c.bytes
   pub behind : (n : ℕ) → c.next ≤ n → drop n c.bytes ≡ drop n b.bytes
 
-kept_byte : {A : Type 0} (b : BufferOf A) (v : A) (room : Bool) → ltb b.next (length b.bytes) ≡ room → Kept b (put_byte b v)
-kept_byte b v true e =
-    let h = ltb-true b.next (length b.bytes) e in
-    rw e (record {
-      long = length-set b.bytes b.next v;
-      onward = omega arith;
-      within = λ k. omega (arith, length-set b.bytes b.next v);
-      behind = λ n k. drop-set-lt n b.bytes b.next v (omega arith);
-    })
-kept_byte b v false e = rw e (record { long = refl; onward = omega arith; within = λ k. k; behind = λ n k. refl })
+kept_byte : {A : Type 0} (b : BufferOf A) (v : A) → Kept b (put_byte b v)
+kept_byte b v = record {
+  long = grind (arith, nat_tests, length-set b.bytes b.next v);
+  onward = grind (arith, nat_tests);
+  within = λ k. grind (arith, nat_tests, length-set b.bytes b.next v);
+  behind = λ n k. grind (arith, nat_tests, drop-set-lt n b.bytes b.next v);
+}
 
 pub kept : {A : Type 0} (b : BufferOf A) (vs : List A) → Kept b (put b vs)
 unfolding put
 kept b [] = record { long = refl; onward = omega arith; within = λ k. k; behind = λ n k. refl }
 kept b (v ∷ vs) =
-    let first = kept_byte b v (ltb b.next (length b.bytes)) refl in
+    let first = kept_byte b v in
     let rest = kept (put_byte b v) vs in
     record {
       long = rest.long ∙ first.long;

@@ -21,6 +21,7 @@ impl<'a, T: Copy> Output<'a, T> {
         Output { room, len: 0 }
     }
 
+    #[tactic(auto, unfolding(crate::specs::Put::put))]
     pub fn put(&mut self, item: T)
         ensures { Puts self.old self.new (item ∷ []) }
     {

@@ -1,36 +1,24 @@
 -- The bytes before the first one that equals a given byte are the first ones, as many as the place at which it stands.
 -- Assumes nothing.
-use Rattle.std.proofs.Common.{ℕ, suc, ltb, ◌||◌, ◌+◌, ◌≡◌, ◌==◌, ◌≤◌, refl, sym, ap, ◌∙◌, Bool, true, false, cond, List, [], ◌∷◌, length, take, length-take, eqb, position, arith}
+use Rattle.std.proofs.Common.{ℕ, ltb, ◌≡◌, ◌==◌, ◌≤◌, refl, sym, ap, ◌∙◌, List, [], ◌∷◌, length, take, length-take, position, arith}
 use Rattle.std.specs.List.{position_or_len, list_any}
 use Rattle.std.proofs.lemmas.Bool.Decides.{nat_tests}
 use Rattle.std.proofs.lemmas.List.{take_all}
 use Rattle.std.proofs.lemmas.List.Recursion.{is_position_or_len}
 use Rattle.felica_text.specs.Text.{before, place_of}
 
-both : (m n : ℕ) → ltb m n ≡ ltb (suc m) (suc n)
-both m n = grind (arith, nat_tests)
-
 module _ (b : ℕ) where
   count : (s : List ℕ) → length (before b s) ≡ position_or_len (λ x. x == b) s
   unfolding before
-  count = is_position_or_len (λ s. length (before b s)) (λ x. x == b) refl (λ x xs. turn x xs (x == b))
-    where
-      turn : (x : ℕ) (xs : List ℕ) (here : Bool) → length (cond here [] (x ∷ before b xs)) ≡ cond here 0 (1 + length (before b xs))
-      turn x xs true = refl
-      turn x xs false = omega arith
+  count = is_position_or_len (λ s. length (before b s)) (λ x. x == b) refl (λ x xs. grind (arith, nat_tests))
 
   pub place_found : (s : List ℕ) → position (λ x. x == b) s ≡ place_of b s
   place_found s = rw (count s) refl
 
-  turn_taken : (x : ℕ) (xs : List ℕ) (t : Bool) → eqb x b ≡ t → take (length (before b xs)) xs ≡ before b xs → take (length (before b (x ∷ xs))) (x ∷ xs) ≡ before b (x ∷ xs)
-  unfolding before
-  turn_taken x xs true e rest = rw e
-  turn_taken x xs false e rest = rw e (ap (λ l. x ∷ l) rest)
-
   pub take_before : (s : List ℕ) → take (length (before b s)) s ≡ before b s
   unfolding before
   take_before [] = refl
-  take_before (x ∷ xs) = turn_taken x xs (eqb x b) refl (take_before xs)
+  take_before (x ∷ xs) = grind (arith, nat_tests, take_before xs)
 
   pub before_within : (s : List ℕ) → length (before b s) ≤ length s
   before_within s = omega (arith, length-take (length (before b s)) s, ap length (take_before s))
@@ -43,9 +31,4 @@ module _ (b : ℕ) where
   pub before_some : (s : List ℕ) → list_any (λ x. x == b) s ≡ ltb (length (before b s)) (length s)
   unfolding before
   before_some [] = refl
-  before_some (x ∷ xs) = turn (x == b) (before_some xs)
-    where
-      turn : (here : Bool) → list_any (λ y. y == b) xs ≡ ltb (length (before b xs)) (length xs)
-          → (here || list_any (λ y. y == b) xs) ≡ ltb (length (cond here [] (x ∷ before b xs))) (suc (length xs))
-      turn true e = grind (arith, nat_tests)
-      turn false e = e ∙ both (length (before b xs)) (length xs)
+  before_some (x ∷ xs) = grind (arith, nat_tests, before_some xs)

@@ -1,9 +1,9 @@
 -- Text of bytes, and the decimal digits of a number by its last digit.
 -- Assumes nothing.
-use Rattle.std.proofs.Common.{ℕ, zero, suc, ◌+◌, ◌*◌, ◌/◌, ◌%◌, ◌≤◌, ◌<◌, ◌≡◌, refl, sym, ap, ◌∙◌, Bool, true, false, List, [], ◌∷◌, ◌++◌, length, arith, length-append}
-use Rattle.std.proofs.Math.Dec.{ltb}
+use Rattle.std.proofs.Common.{ℕ, zero, suc, ◌+◌, ◌*◌, ◌/◌, ◌%◌, ◌≤◌, ◌<◌, ◌≡◌, refl, sym, ap, ◌∙◌, List, [], ◌∷◌, ◌++◌, length, arith, length-append}
 use Rattle.std.proofs.Math.Nat.{not-suc-le-zero}
-use Rattle.std.proofs.lemmas.Bool.{lt-ltb, le-ltb, ltb-true, ltb-false}
+use Rattle.std.proofs.lemmas.Bool.{lt-ltb, le-ltb}
+use Rattle.std.proofs.lemmas.Bool.Decides.{nat_tests}
 use Rattle.felica_text.specs.Text.{text, digits_text, bytes_text, decimal_digits, decimal_text}
 
 pub bytes_none : (s : List ℕ) → length s ≡ 0 → text "-" ≡ bytes_text s
@@ -25,18 +25,12 @@ more : (k n : ℕ) → 10 ≤ n → decimal_digits (suc k) n ≡ decimal_digits 
 unfolding decimal_digits
 more k n h = rw (le-ltb _ _ h)
 
-step : (f g n : ℕ) (b : Bool) → ltb n 10 ≡ b → (n / 10 ≤ f → n / 10 ≤ g → decimal_digits f (n / 10) ≡ decimal_digits g (n / 10)) → n ≤ suc f → n ≤ suc g
-    → decimal_digits (suc f) n ≡ decimal_digits (suc g) n
-step f g n true e ih hf hg = let h = ltb-true n 10 e in small (suc f) n h ∙ sym (small (suc g) n h)
-step f g n false e ih hf hg =
-    let h = ltb-false n 10 e in
-    more f n h ∙ ap (λ (r : List ℕ). r ++ ((48 + n % 10) ∷ [])) (ih (omega arith) (omega arith)) ∙ sym (more g n h)
-
 -- any count that is large enough gives the same
 same : (f g n : ℕ) → n ≤ f → n ≤ g → decimal_digits f n ≡ decimal_digits g n
+unfolding decimal_digits
 same zero g n hf hg = small zero n (omega arith) ∙ sym (small g n (omega arith))
 same (suc f) zero n hf hg = small (suc f) n (omega arith) ∙ sym (small zero n (omega arith))
-same (suc f) (suc g) n hf hg = step f g n (ltb n 10) refl (same f g (n / 10)) hf hg
+same (suc f) (suc g) n hf hg = grind (arith, nat_tests, same f g (n / 10))
 
 pub decimal_small : (n : ℕ) → n < 10 → decimal_text n ≡ (48 + n) ∷ []
 unfolding decimal_text
@@ -59,10 +53,4 @@ tens (suc k) = 10 * tens k
 
 pub decimal_length : (k n : ℕ) → n < tens k → length (decimal_text n) ≤ suc k
 decimal_length zero n h = rw (decimal_small n h) (omega arith)
-decimal_length (suc k) n h = go (ltb n 10) refl (decimal_length k (n / 10))
-  where
-    go : (b : Bool) → ltb n 10 ≡ b → (n / 10 < tens k → length (decimal_text (n / 10)) ≤ suc k) → length (decimal_text n) ≤ suc (suc k)
-    go true e ih = rw (decimal_small n (ltb-true n 10 e)) (omega arith)
-    go false e ih =
-        let rest = ih (omega arith) in
-        rw (decimal_more n (ltb-false n 10 e), length-append (decimal_text (n / 10)) ((48 + n % 10) ∷ [])) (omega arith)
+decimal_length (suc k) n h = grind (arith, nat_tests, decimal_small n, decimal_more n, decimal_length k (n / 10), length-append {A = ℕ})
