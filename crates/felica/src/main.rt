@@ -27,6 +27,13 @@ const MAX_CALL_BYTES: usize = 16384;
 // come to less, and so do the five lists and what the writer writes, 16,384 bytes behind their count.
 const ANSWER_ROOM: usize = 33024;
 
+// The answers that wait to be written, which are within their room.
+#[derive(Drop)]
+struct Waiting<'a> {
+    out: Output<'a, u8>,
+    ghost within: { IsWithin out },
+}
+
 // An empty line is answered too, so that there is a line for each line.
 fn answer_call(line: &[u8], bytes: &mut [u8], out: &mut Output<u8>)
     ensures same_reference { out.new.room.ghost_name ≡ out.old.room.ghost_name }
@@ -49,6 +56,18 @@ fn answer_line(line: &[u8], bytes: &mut [u8], out: &mut Output<u8>)
     out.put(b'\n');
 }
 
+// The same, where room is made for it first.
+fn answer_next<W: Write>(
+    writer: &mut W,
+    line: &[u8],
+    bytes: &mut [u8],
+    waiting: &mut Waiting,
+) -> io::Result<()> {
+    make_room(writer, &mut waiting.out, ANSWER_ROOM)?;
+    answer_line(line, bytes, &mut waiting.out);
+    Ok(())
+}
+
 // Where the line feed of the first line stands, if it has one.
 fn line_end(text: &[u8]) -> Option<usize>
     ensures { IfSome result (λ end. end < length text.now) }
@@ -61,16 +80,13 @@ fn answer_lines<W: Write>(
     writer: &mut W,
     input: &[u8],
     bytes: &mut [u8],
-    out: &mut Output<u8>,
+    waiting: &mut Waiting,
 ) -> io::Result<usize>
-    requires { IsWithin out.old }
-    ensures within { IsWithin out.new }
-    ensures rest { IfOk result (λ rest. rest ≤ length input.now) }
+    ensures { IfOk result (λ rest. rest ≤ length input.now) }
 {
     let mut rest = input;
     while let Some(end) = line_end(rest) {
-        make_room(writer, out, ANSWER_ROOM)?;
-        answer_line(&rest[..end], bytes, out);
+        answer_next(writer, &rest[..end], bytes, waiting)?;
         rest = &rest[end + 1..];
     }
     Ok(rest.len())
@@ -101,20 +117,19 @@ fn answer_held<R: Read, W: Write>(
     input: &mut [u8],
     held: usize,
     bytes: &mut [u8],
-    out: &mut Output<u8>,
+    waiting: &mut Waiting,
 ) -> io::Result<usize>
-    requires { (held ≤ length input.old) × IsWithin out.old }
-    ensures within { IsWithin out.new }
-    ensures rest { IfOk result (λ rest. rest ≤ length input.new) }
+    requires { held ≤ length input.old }
+    ensures { IfOk result (λ rest. rest ≤ length input.new) }
 {
-    let rest = answer_lines(writer, &input[..held], bytes, out)?;
+    let rest = answer_lines(writer, &input[..held], bytes, waiting)?;
     if rest < input.len() {
         keep_rest(input, held - rest, held);
         return Ok(rest);
     }
-    make_room(writer, out, ANSWER_ROOM)?;
-    put_fault(out, Fault::LineTooLong);
-    out.put(b'\n');
+    make_room(writer, &mut waiting.out, ANSWER_ROOM)?;
+    put_fault(&mut waiting.out, Fault::LineTooLong);
+    waiting.out.put(b'\n');
     Ok(skip_line(reader, input))
 }
 
@@ -125,16 +140,14 @@ fn feed<R: Read, W: Write>(
     writer: &mut W,
     input: &mut [u8],
     bytes: &mut [u8],
-    out: &mut Output<u8>,
+    waiting: &mut Waiting,
 ) -> io::Result<usize>
-    requires { IsWithin out.old }
-    ensures within { IsWithin out.new }
-    ensures rest { IfOk result (λ held. held ≤ length input.new) }
+    ensures { IfOk result (λ held. held ≤ length input.new) }
 {
     let mut held = 0;
     for _ in 0..u64::MAX {
         let more = read_more(reader, input, held).unwrap_or(held);
-        let rest = answer_held(reader, writer, input, more, bytes, out)?;
+        let rest = answer_held(reader, writer, input, more, bytes, waiting)?;
         if more == held {
             return Ok(rest);
         }
@@ -150,13 +163,14 @@ fn run<R: Read, W: Write>(
     bytes: &mut [u8],
     out: &mut [u8],
 ) -> io::Result<()> {
-    let mut out = Output::new(out);
-    let held = feed(reader, writer, input, bytes, &mut out)?;
+    let mut waiting = Waiting {
+        out: Output::new(out),
+    };
+    let held = feed(reader, writer, input, bytes, &mut waiting)?;
     if held != 0 {
-        make_room(writer, &mut out, ANSWER_ROOM)?;
-        answer_line(&input[..held], bytes, &mut out);
+        answer_next(writer, &input[..held], bytes, &mut waiting)?;
     }
-    writer.write_all(out.filled())
+    writer.write_all(waiting.out.filled())
 }
 
 fn main(rt: HostRuntime) {

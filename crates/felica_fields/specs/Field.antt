@@ -1,6 +1,7 @@
 -- A field of an answer: its name, with the space before it and the `=` behind it, and its value.
 -- Assumes nothing.
 use Rattle.std.specs.Prelude.{ℕ, List, ◌++◌, take, drop}
+-- std has no name for the type of a text between quotes
 use Prim.Native.String.{String}
 use Rattle.felica_command.specs.Meaning.{bytes_at}
 use Rattle.felica_command.specs.declared.command.Part.{Part}
