@@ -1,6 +1,7 @@
 -- Codes and their marks; computed in proofs/Examples.antt.
 -- Assumes nothing.
 use Rattle.std.specs.Prelude.{ℕ, ◌≡◌, List, [], ◌∷◌, map}
+-- the type of text literals, for which std has no name
 use Prim.Native.String.{String}
 use Rattle.felica_text.specs.Text.{text}
 use Rattle.felica_line.specs.Line.{mark_text}

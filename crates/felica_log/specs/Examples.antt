@@ -1,6 +1,7 @@
 -- Document 01's sample and other logs with their listings; computed in proofs/Examples.antt.
 -- Assumes nothing.
 use Rattle.std.specs.Prelude.{ℕ, ◌≡◌, List, [], ◌∷◌, ◌++◌}
+-- the type of text literals, for which std has no name
 use Prim.Native.String.{String}
 use Rattle.felica_format.specs.Examples.{I8}
 use Rattle.felica_text.specs.Text.{text}

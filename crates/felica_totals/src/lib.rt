@@ -42,14 +42,13 @@ impl Totals {
             Some(blocks) => Totals {
                 records,
                 accepted: self.accepted + 1,
-                refused: self.refused,
                 blocks: self.blocks + blocks,
+                ..self
             },
             None => Totals {
                 records,
-                accepted: self.accepted,
                 refused: self.refused + 1,
-                blocks: self.blocks,
+                ..self
             },
         }
     }

@@ -1,11 +1,11 @@
 -- Steps over the bytes held, one behind another, and the rest of them moved to the front.
 -- Assumes nothing.
-use Rattle.std.proofs.Common.{ℕ, zero, suc, ◌+◌, ◌-◌, ◌≤◌, ◌<◌, zero-add, arith, ◌≡◌, refl, sym, ap, ◌∙◌, subst, ◌⊎◌, inl, inr, Bool, true, false, cond, ◌&&◌, true≢false, List, [], ◌∷◌, ◌++◌, append_assoc, append-nil, ltb, leb, length, get_or, take, drop, length-drop, length-append, take-append-drop, length-take-le, drop-drop, eqb-true, ltb-true, ltb-false, leb-true, leb-false, le-leb}
+use Rattle.std.proofs.Common.{ℕ, suc, ◌+◌, ◌-◌, ◌≤◌, ◌<◌, zero-add, add-zero, arith, ◌≡◌, refl, sym, ap, ◌∙◌, subst, ◌⊎◌, inl, inr, Bool, true, false, cond, ◌&&◌, true≢false, List, [], ◌∷◌, ◌++◌, append_assoc, append-nil, ltb, leb, length, get_or, take, drop, length-drop, length-append, take-append-drop, length-take-le, drop-drop, get_or-drop, ltb-true, ltb-false, leb-true, leb-false, le-leb}
 use Rattle.std.proofs.Math.Nat.{sub-zero}
 use Rattle.std.proofs.Math.Seq.{paste}
 use Rattle.std.proofs.lemmas.List.{drop-take, take-append-le}
 use Rattle.std.proofs.lemmas.List.Edits.{take-paste}
-use Rattle.std.specs.Prelude.{nat_eq, None, Some, Result, Ok, Err, OnOk, MatchResult}
+use Rattle.std.specs.Prelude.{None, Some, Result, Ok, Err, OnOk, MatchResult}
 use Rattle.std.specs.Result.{is_ok}
 use Rattle.std.specs.declared.option.Option.{Option}
 use Rattle.std.specs.Io.KnownBytes.{Consumes, Appends, IsAtEnd}
@@ -196,32 +196,27 @@ rest_short t (x ∷ s) none few byte = go (leb x (length s)) refl
     go true e = let full = none (take x s) (drop x s) (front_whole x s (leb-true _ _ e)) in absurd (omega (arith, full, few))
     go false e = omega (arith, leb-false x (length s) e, byte)
 
-first_byte : (n : ℕ) (s : List ℕ) → get_or s 0 0 < 256 → get_or (take n s) 0 0 < 256
-first_byte zero s h = omega arith
-first_byte (suc n) [] h = omega arith
-first_byte (suc n) (x ∷ s) h = h
+pub less_left : (t : Totals) (s : List ℕ) (k : ℕ) → NoneLeft t (drop k s) → k ≤ length s → get_or s k 0 < 256 → t.records < max_records → length s < k + 256
+less_left t s k none inside byte few = omega (arith, rest_short t (drop k s) none few (rw (get_or-drop, add-zero) byte), length-drop k s)
 
 -- while it goes on, less than a record is held
-pub held_short : (ended : Bool) (t : Totals) (held : ℕ) (s : List ℕ) → over ended t held ≡ false → NoneLeft t (take held s) → held ≤ length s → get_or s 0 0 < 256
-    → held < 256
+pub held_short : (ended : Bool) (t : Totals) (held : ℕ) → over ended t held ≡ false → (t.records < max_records → held < 256) → held < 256
 unfolding over
-held_short true t held s e none h byte = absurd (true≢false e)
-held_short false t held s e none h byte = go (leb max_records t.records) refl (ltb 0 held) refl e
+held_short true t held e short = absurd (true≢false e)
+held_short false t held e short = go (leb max_records t.records) refl (ltb 0 held) refl e
   where
     go : (full : Bool) → leb max_records t.records ≡ full → (some : Bool) → ltb 0 held ≡ some → (full && some) ≡ false → held < 256
     go true f true g e = absurd (true≢false e)
     go true f false g e = omega (arith, ltb-false 0 held g)
-    go false f some g e =
-        let short = rest_short t (take held s) none (leb-false max_records t.records f) (first_byte held s byte) in
-        omega (arith, short, length-take-le held s h)
+    go false f some g e = short (leb-false max_records t.records f)
 
 -- nothing is read yet
-pub read_none : (q v : Option (List ℕ)) (t : Totals) (o : Output ℕ) → t ≡ no_totals → o.len ≡ 0 → ReadAndListed q q v v t (held o) []
+pub read_none : (q v : Option (List ℕ)) (t : Totals) (o : Output ℕ) {bytes : List ℕ} → bytes ≡ [] → o.len ≡ 0 → t ≡ no_totals → ReadAndListed q q v v t (held o) bytes
 unfolding listing
-read_none q v t o e start = record {
+read_none q v t o none start e = record {
   log = [];
   written = [];
-  lists = λ behind. rw (e, start) refl;
+  lists = λ behind. rw (none, e, start) refl;
   given = consumes_none q;
   taken = appends_none v;
 }
@@ -277,12 +272,12 @@ unfolding over
 goes_on true t held e = absurd (true≢false e)
 goes_on false t held e = refl
 
-pub all_read_once_over : (q r v w : Option (List ℕ)) (t : Totals) (c : Buffer) (rest : List ℕ) (more held n : ℕ) → over (nat_eq more held) t n ≡ true → n ≡ length rest
-    → (more ≡ held → IsAtEnd r) → ReadAndListed q r v w t c rest → AllRead q r v w t c rest
-all_read_once_over q r v w t c rest more held n e long end x = (x, go (over_why (nat_eq more held) t n e))
+pub all_read_once_over : (q r v w : Option (List ℕ)) (t : Totals) (c : Buffer) (rest : List ℕ) (ended : Bool) (n : ℕ) → over ended t n ≡ true → n ≡ length rest
+    → (ended ≡ true → IsAtEnd r) → ReadAndListed q r v w t c rest → AllRead q r v w t c rest
+all_read_once_over q r v w t c rest ended n e long end x = (x, go (over_why ended t n e))
   where
-    go : (nat_eq more held ≡ true) ⊎ ((max_records ≤ t.records) × (0 < n)) → ReadToEnd r t rest x.log
-    go (inl same) = at_end (end (eqb-true more held same))
+    go : (ended ≡ true) ⊎ ((max_records ≤ t.records) × (0 < n)) → ReadToEnd r t rest x.log
+    go (inl is) = at_end (end is)
     go (inr full) = at_limit full.0 (omega (arith, full.1, long))
 
 -- Where all is read and what waits and the last lines are taken, the listing of the log is.

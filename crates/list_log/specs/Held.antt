@@ -11,6 +11,7 @@ use Rattle.felica_stream.specs.Held.{still_waiting, IsWithin}
 use Rattle.felica_log.specs.Listing.{max_records, records_left, listing_from, listing}
 use Rattle.felica_log.specs.Step.{line_room}
 use Rattle.felica_log.specs.Rules.{NoneLeft}
+use Rattle.list_log.specs.declared.input.Input.{Input}
 
 -- Of the bytes held so many are listed; the totals went from t to u, the output from b to c, and what the writer holds from v to w.
 pub record ListedUpTo (v : Option (List ℕ)) (t : Totals) (b : Buffer) (held : List ℕ) (w : Option (List ℕ)) (u : Totals) (c : Buffer) (used : ℕ) : Type 0 where
@@ -62,6 +63,10 @@ EndPut b text after =
 pub record HasLineRoom (out : Output ℕ) : Type 0 where
   pub inside : IsWithin out
   pub line : line_room ≤ length out.room.now
+
+-- the bytes that an input holds
+abbrev pub bytes_in : Input → List ℕ
+bytes_in input = take input.held input.room.now
 
 -- nothing more is to be read: the input has ended, or a byte follows the last record that may be read
 unfoldable pub over : Bool → Totals → ℕ → Bool

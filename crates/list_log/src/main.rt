@@ -1,13 +1,16 @@
 // Lists a log: reads it on standard input, and writes a line for each record to standard output.
 #![tactic(auto)]
 
-ghost use Rattle.std.specs.Prelude.{◌≡◌, ◌≤◌, ◌<◌, true, false, ◌++◌, IfOk, OnOk, length, take, drop};
+ghost use Rattle.std.specs.Prelude.{◌≡◌, ◌≤◌, ◌<◌, ◌+◌, true, false, ◌++◌, IfOk, OnOk, length, take, drop};
 ghost use Rattle.std.specs.Io.KnownBytes.{Consumes, Appends, IsAtEnd};
 ghost use Rattle.felica_put.specs.Output.{held as put_in};
 ghost use Rattle.felica_totals.specs.Count.{no_totals};
+ghost use Rattle.felica_log.specs.Listing.{max_records};
 ghost use Rattle.felica_log.specs.Step.{line_room, end_text};
 ghost use Rattle.felica_log.specs.Rules.{Sound, NoneLeft};
-ghost use Rattle.list_log.specs.Held.{HasLineRoom, AllListed, RestKept, ReadAndListed, AllRead, TakesListing, EndPut, over};
+ghost use Rattle.list_log.specs.Held.{HasLineRoom, AllListed, RestKept, bytes_in, AllRead, TakesListing, EndPut, over};
+
+mod input;
 
 use felica_log::end::put_end;
 use felica_log::step::list_records;
@@ -15,6 +18,7 @@ use felica_log::{LINE_ROOM, MAX_RECORDS};
 use felica_put::Output;
 use felica_stream::{keep_rest, make_room, read_more};
 use felica_totals::Totals;
+use input::Input;
 use std::io::{self, Read, Write};
 
 // What keeps a listing from being complete.
@@ -35,7 +39,8 @@ struct Listing<'a> {
 
 // Lists the whole records of what is held, and answers how many bytes they are.
 fn list_held<W: Write>(writer: &mut W, held: &[u8], listing: &mut Listing) -> io::Result<usize>
-    ensures { IfOk result (λ used. (used ≤ length held.now) × AllListed (W.contents writer.old) listing.old.totals (put_in listing.old.out) held.now (W.contents writer.new) listing.new.totals (put_in listing.new.out) used) }
+    ensures listed { IfOk result (λ used. (used ≤ length held.now) × AllListed (W.contents writer.old) listing.old.totals (put_in listing.old.out) held.now (W.contents writer.new) listing.new.totals (put_in listing.new.out) used) }
+    ensures short { IfOk result (λ used. listing.new.totals.records < max_records → length held.now < used + 256) }
 {
     let mut used = 0;
     loop {
@@ -50,19 +55,17 @@ fn list_held<W: Write>(writer: &mut W, held: &[u8], listing: &mut Listing) -> io
     }
 }
 
-// Lists what is held, moves the rest of it to the front, and answers how long that is.
-fn list_input<W: Write>(
-    writer: &mut W,
-    input: &mut [u8],
-    held: usize,
-    listing: &mut Listing,
-) -> io::Result<usize>
-    requires { held ≤ length input.old }
-    ensures { IfOk result (λ left. (left ≤ length input.new) × RestKept (W.contents writer.old) listing.old.totals (put_in listing.old.out) (take held input.old) (W.contents writer.new) listing.new.totals (put_in listing.new.out) (take left input.new)) }
+// Lists what is held, and moves the rest of it to the front.
+fn list_input<W: Write>(writer: &mut W, input: &mut Input, listing: &mut Listing) -> io::Result<()>
+    ensures listed { OnOk result (RestKept (W.contents writer.old) listing.old.totals (put_in listing.old.out) (bytes_in input.old) (W.contents writer.new) listing.new.totals (put_in listing.new.out) (bytes_in input.new)) }
+    ensures short { OnOk result (listing.new.totals.records < max_records → input.new.held < 256) }
 {
-    let used = list_held(writer, &input[..held], listing)?;
-    keep_rest(input, used, held);
-    Ok(held - used)
+    let held = input.held;
+    let room = &mut *input.room;
+    let used = list_held(writer, &room[..held], listing)?;
+    keep_rest(room, used, held);
+    input.held = held - used;
+    Ok(())
 }
 
 // Whether nothing more is to be read: the input has ended, or a byte follows the last record that may be read.
@@ -72,41 +75,40 @@ fn is_over(ended: bool, totals: Totals, held: usize) -> bool
     ended || (MAX_RECORDS <= totals.records && 0 < held)
 }
 
-// There is room to read into, so that a read which brings nothing is the end of the log.
-fn read_piece<R: Read>(reader: &mut R, input: &mut [u8], held: usize) -> io::Result<usize>
-    requires { held < length input.old }
-    ensures bytes { IfOk result (λ more. Consumes (R.remaining reader.old) (R.remaining reader.new) (drop held (take more input.new))) }
-    ensures end { IfOk result (λ more. more ≡ held → IsAtEnd (R.remaining reader.new)) }
-    ensures counts { IfOk result (λ more. (more ≤ length input.new) × (held ≤ more)) }
-    ensures kept { take held input.new ≡ take held input.old }
+// Reads once behind what is held, and answers whether the log has ended: there is room to read into, so that a read which brings nothing is its end.
+fn read_piece<R: Read>(reader: &mut R, input: &mut Input) -> io::Result<bool>
+    requires { input.old.held < length input.old.room.now }
+    ensures bytes { OnOk result (Consumes (R.remaining reader.old) (R.remaining reader.new) (drop input.old.held (bytes_in input.new))) }
+    ensures end { IfOk result (λ ended. ended ≡ true → IsAtEnd (R.remaining reader.new)) }
+    ensures more { IfOk result (λ ended. ended ≡ false → input.old.held < input.new.held) }
+    ensures kept { OnOk result ((input.old.held ≤ input.new.held) × (take input.old.held input.new.room.now ≡ bytes_in input.old)) }
 {
-    read_more(reader, input, held)
+    let held = input.held;
+    let more = read_more(reader, &mut *input.room, held)?;
+    input.held = more;
+    Ok(more == held)
 }
 
-// Reads the log and lists its records, and answers how many bytes are left behind them. A proved loop has to end, and nothing says that the input does: the turns are
-// counted. How many bytes are held stands beside the lent array, since this loop is proved by that number.
+// Reads the log and lists its records, until what is held is the bytes behind them. A proved loop has to end, and nothing says that the input does: the turns are
+// counted.
 fn feed<R: Read, W: Write>(
     reader: &mut R,
     writer: &mut W,
-    input: &mut [u8],
+    input: &mut Input,
     listing: &mut Listing,
-) -> Result<usize, Failure>
-    requires input { 256 ≤ length input.old }
-    requires started { (listing.old.out.len ≡ 0) × (listing.old.totals ≡ no_totals) }
-    ensures inside { IfOk result (λ held. held ≤ length input.new) }
-    ensures all { IfOk result (λ held. AllRead (R.remaining reader.old) (R.remaining reader.new) (W.contents writer.old) (W.contents writer.new) listing.new.totals (put_in listing.new.out) (take held input.new)) }
-    ensures none_left { IfOk result (λ held. NoneLeft listing.new.totals (take held input.new)) }
+) -> Result<(), Failure>
+    requires started { (input.old.held ≡ 0) × (listing.old.out.len ≡ 0) × (listing.old.totals ≡ no_totals) }
+    ensures all { OnOk result (AllRead (R.remaining reader.old) (R.remaining reader.new) (W.contents writer.old) (W.contents writer.new) listing.new.totals (put_in listing.new.out) (bytes_in input.new)) }
+    ensures none_left { OnOk result (NoneLeft listing.new.totals (bytes_in input.new)) }
 {
-    let mut held = 0;
     for _ in 0..u64::MAX {
-        let more = read_piece(reader, input, held).map_err(|_| Failure::Read)?;
-        let left = list_input(writer, input, more, listing).map_err(|_| Failure::Write)?;
-        if is_over(more == held, listing.totals, left) {
-            return Ok(left);
+        let ended = read_piece(reader, input).map_err(|_| Failure::Read)?;
+        list_input(writer, input, listing).map_err(|_| Failure::Write)?;
+        if is_over(ended, listing.totals, input.held) {
+            return Ok(());
         }
-        held = left;
     }
-    Ok(held)
+    Ok(())
 }
 
 // Writes what waits and the lines that end the listing.
@@ -123,15 +125,14 @@ fn finish<W: Write>(writer: &mut W, rest: &[u8], listing: &mut Listing) -> io::R
 fn list<R: Read, W: Write>(
     reader: &mut R,
     writer: &mut W,
-    input: &mut [u8],
+    input: &mut Input,
     listing: &mut Listing,
 ) -> Result<(), Failure>
-    requires input { 256 ≤ length input.old }
-    requires started { (listing.old.out.len ≡ 0) × (listing.old.totals ≡ no_totals) }
+    requires { (input.old.held ≡ 0) × (listing.old.out.len ≡ 0) × (listing.old.totals ≡ no_totals) }
     ensures { OnOk result (TakesListing (R.remaining reader.old) (W.contents writer.old) (W.contents writer.new)) }
 {
-    let held = feed(reader, writer, input, listing)?;
-    finish(writer, &input[..held], listing).map_err(|_| Failure::Write)
+    feed(reader, writer, input, listing)?;
+    finish(writer, &input.room[..input.held], listing).map_err(|_| Failure::Write)
 }
 
 // Lists the log; one without TOTAL is not complete, and then the error output says why.
@@ -145,11 +146,15 @@ fn run<R: Read, W: Write, E: Write>(
     requires { (256 ≤ length input.old) × (line_room ≤ length out.old) }
     ensures { OnOk result (TakesListing (R.remaining reader.old) (W.contents writer.old) (W.contents writer.new)) }
 {
+    let mut input = Input {
+        room: input,
+        held: 0,
+    };
     let mut listing = Listing {
         out: Output::new(out),
         totals: Totals::new(),
     };
-    let listed = list(reader, writer, input, &mut listing);
+    let listed = list(reader, writer, &mut input, &mut listing);
     let _ = match listed {
         Ok(()) => Ok(()),
         Err(Failure::Read) => {

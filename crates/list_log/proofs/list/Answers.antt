@@ -6,5 +6,5 @@ use Rattle.list_log.proofs.list.Goals as goal
 
 pub returns : goal.returns
 returns g c =
-    let fed = c.in_ok-held.ensures in
+    let fed = c.in_ok-feed.ensures in
     ok_as _ _ _ c.map_err.ensures.variant (on_ok _ (takes_listing _ _ _ _ _ _ (held c.feed.new.listing.out) _ fed.none_left fed.all) c.finish.ensures.bytes)

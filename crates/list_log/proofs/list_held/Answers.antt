@@ -1,9 +1,9 @@
 -- `list_held` meets its contract: a step for each turn.
 -- Assumes nothing.
-use Rattle.std.proofs.Common.{refl, sym, ◌∙◌, arith}
+use Rattle.std.proofs.Common.{◌+◌, refl, sym, ◌∙◌, arith}
 use Rattle.felica_put.specs.Output.{held}
 use Rattle.felica_put.proofs.Laws.{take_rest}
-use Rattle.list_log.proofs.Held.{line_room_made, line_fits, room_after, inside_after, sound_after, none_after, some_used, listed_step, listed_room, listed_start}
+use Rattle.list_log.proofs.Held.{line_room_made, line_fits, room_after, inside_after, sound_after, none_after, less_left, some_used, listed_step, listed_room, listed_start}
 use Rattle.list_log.proofs.list_held.Goals as goal
 
 pub loop-totals-init : goal.loop-totals-init
@@ -22,8 +22,8 @@ overflow_add-used g c =
     let loop = c.loop-totals in
     omega (arith, inside_after _ _ _ c.list_records-progress.ensures.reached c.args.held.now loop.used (take_rest loop.used c.args.held.now) loop.invariant.inside)
 
-pub returns-then-not-lacks_room : goal.returns-then-not-lacks_room
-returns-then-not-lacks_room g c =
+pub returns-then-not-lacks_room-clause-listed : goal.returns-then-not-lacks_room-clause-listed
+returns-then-not-lacks_room-clause-listed g c =
     let loop = c.loop-totals in
     let all = c.args.held.now in
     let first = c.args.listing.now in
@@ -36,6 +36,16 @@ returns-then-not-lacks_room g c =
         none_after _ _ _ e all loop.used rest loop.listing.sound (sym c.lacks_room.ensures ∙ c.if-not-lacks_room.true),
       ),
     )
+
+pub returns-then-not-lacks_room-clause-short : goal.returns-then-not-lacks_room-clause-short
+returns-then-not-lacks_room-clause-short g c =
+    let loop = c.loop-totals in
+    let all = c.args.held.now in
+    let used = loop.used + c.list_records-progress.result.used in
+    let e = c.list_records-progress.ensures.reached in
+    let rest = take_rest loop.used all in
+    let none = none_after _ _ _ e all loop.used rest loop.listing.sound (sym c.lacks_room.ensures ∙ c.if-not-lacks_room.true) in
+    less_left c.list_records-progress.new.totals all used none (inside_after _ _ _ e all loop.used rest loop.invariant.inside) (omega (arith, c.type_inv.held used))
 
 pub loop-totals-smaller : goal.loop-totals-smaller
 loop-totals-smaller g c =
