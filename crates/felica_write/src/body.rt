@@ -51,21 +51,15 @@ fn put_selector(out: &mut Output<'_, u8>, selector: Option<Selector>, value: u8)
     }
 }
 
+// The count, and the codes.
 #[tactic(auto, unfolding(felica_format::specs::Write::codes_bytes, felica_put::specs::Put::put))]
 fn put_codes(out: &mut Output<'_, u8>, codes: Option<Bounds>, list: &[u16])
     requires { length list.now ≤ 255 }
     ensures { Puts out.old out.new (codes_bytes (codes_meant codes) list.now) }
 {
-    if codes.is_some() {
-        put_counted(out, list);
+    if codes.is_none() {
+        return;
     }
-}
-
-// The count, and the codes.
-fn put_counted(out: &mut Output<'_, u8>, list: &[u16])
-    requires { length list.now ≤ 255 }
-    ensures { Puts out.old out.new (length list.now ∷ words_bytes list.now) }
-{
     out.put(list.len() as u8);
     for &code in list {
         put_word(out, code);
