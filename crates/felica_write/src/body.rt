@@ -6,7 +6,7 @@ ghost use Rattle.felica_format.specs.Write.{data_bytes, package_bytes, selector_
 ghost use Rattle.felica_layout.specs.Layout.{layout_meant, selector_meant, codes_meant, ending_meant, behind_meant};
 ghost use Rattle.felica_put.specs.Output.{Puts};
 ghost use Rattle.felica_writable.specs.Handed.{handed_by};
-ghost use Rattle.felica_write.specs.Body.{Ready, element};
+ghost use Rattle.felica_write.specs.Body.{IsFew, Ready, element};
 
 use felica_command::fixed::Fixed;
 use felica_format::constants::Bounds;
@@ -54,7 +54,7 @@ fn put_selector(out: &mut Output<'_, u8>, selector: Option<Selector>, value: u8)
 // The count, and the codes.
 #[tactic(auto, unfolding(felica_format::specs::Write::codes_bytes, felica_put::specs::Put::put))]
 fn put_codes(out: &mut Output<'_, u8>, codes: Option<Bounds>, list: &[u16])
-    requires { length list.now ≤ 255 }
+    requires { IsFew list.now }
     ensures { Puts out.old out.new (codes_bytes (codes_meant codes) list.now) }
 {
     if codes.is_none() {

@@ -4,7 +4,7 @@ ghost use Rattle.felica_format.specs.Read.{size_of};
 ghost use Rattle.felica_command.specs.Places.{selector_size, codes_size};
 ghost use Rattle.felica_layout.specs.Layout.{layout_meant, selector_meant, codes_meant, ending_meant};
 ghost use Rattle.felica_writable.specs.Handed.{handed_by};
-ghost use Rattle.felica_write.specs.Body.{Ready};
+ghost use Rattle.felica_write.specs.Body.{IsFew, Ready};
 ghost use Rattle.felica_write.specs.Size.{short_size, front_size};
 
 use felica_format::constants::{Bounds, IDM_LEN};
@@ -17,8 +17,7 @@ pub(crate) fn body_size(layout: Layout, command: Handed<'_>) -> usize
     ensures size { result ≡ front_size (layout_meant layout) (length command.entry.first.now) (length command.entry.second.now) command.entry.numbers.now (length command.entry.data.now) }
     ensures bound { result ≤ 6000 }
 {
-    let lists = codes_size(layout.first, command.first.len())
-        + codes_size(layout.second, command.second.len());
+    let lists = codes_size(layout.first, command.first) + codes_size(layout.second, command.second);
     let blocks = size_if(layout.elements, 1 + short_size(command.numbers)) + command.data.len();
     size_if(layout.idm, IDM_LEN)
         + selector_size(layout.selector)
@@ -44,20 +43,20 @@ fn selector_size(selector: Option<Selector>) -> usize
     }
 }
 
-fn codes_size(codes: Option<Bounds>, count: usize) -> usize
-    requires { count ≤ 255 }
-    ensures size { result ≡ codes_size (codes_meant codes) count }
+fn codes_size(codes: Option<Bounds>, list: &[u16]) -> usize
+    requires { IsFew list.now }
+    ensures size { result ≡ codes_size (codes_meant codes) (length list.now) }
     ensures bound { result ≤ 511 }
 {
     match codes {
         None => 0,
-        Some(_) => 1 + 2 * count,
+        Some(_) => 1 + 2 * list.len(),
     }
 }
 
 // Elements in their shortest form.
 fn short_size(numbers: &[u16]) -> usize
-    requires { length numbers.now ≤ 255 }
+    requires { IsFew numbers.now }
     ensures size { result ≡ short_size numbers.now }
     ensures bound { result ≤ 765 }
 {
