@@ -1,8 +1,8 @@
 // The parts of a body, put into a buffer one behind the other.
-ghost use Rattle.std.specs.Prelude.{◌≡◌, true, false, [], ◌∷◌, ◌≤◌, ◌<◌, length};
-ghost use Rattle.felica_format.specs.Basic.{all_below, word_bytes};
+ghost use Rattle.std.specs.Prelude.{false, [], ◌<◌};
+ghost use Rattle.felica_format.specs.Basic.{word_bytes};
 ghost use Rattle.felica_format.specs.Command.{end_fields, elements_of};
-ghost use Rattle.felica_format.specs.Write.{data_bytes, package_bytes, selector_bytes, words_bytes, codes_bytes, element_bytes, elements_bytes, ending_bytes, body_bytes};
+ghost use Rattle.felica_format.specs.Write.{data_bytes, package_bytes, selector_bytes, codes_bytes, element_bytes, elements_bytes, ending_bytes, body_bytes};
 ghost use Rattle.felica_layout.specs.Layout.{layout_meant, selector_meant, codes_meant, ending_meant, behind_meant};
 ghost use Rattle.felica_put.specs.Output.{Puts};
 ghost use Rattle.felica_writable.specs.Handed.{handed_by};
@@ -15,7 +15,7 @@ use felica_put::Output;
 use felica_writable::handed::Handed;
 
 // The least block number that takes two bytes.
-const LEAST_LONG: u16 = 256;
+pub(crate) const LEAST_LONG: u16 = 256;
 
 pub(crate) fn put_body(out: &mut Output<'_, u8>, layout: Layout, command: Handed<'_>)
     requires { Ready (handed_by command) }
