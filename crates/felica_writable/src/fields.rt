@@ -25,7 +25,7 @@ pub(crate) fn selector_ok(selector: Option<Selector>, value: u8) -> bool
     }
 }
 
-// Without an early exit, so that the compiler can test many bytes at once.
+// Without an early exit, so that the compiler can test many bytes at once. By `all`, as felica_cursor tests its two or four bytes, it goes byte by byte.
 fn all_zero(bytes: &[u8]) -> bool
     ensures { result ≡ same_list bytes.now (zeros (length bytes.now)) }
 {

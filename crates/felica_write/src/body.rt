@@ -1,12 +1,12 @@
 // The parts of a body, put into a buffer one behind the other.
-ghost use Rattle.std.specs.Prelude.{◌≡◌, true, false, [], ◌∷◌, ◌≤◌, ◌<◌, length};
-ghost use Rattle.felica_format.specs.Basic.{all_below, word_bytes};
+ghost use Rattle.std.specs.Prelude.{false, [], ◌<◌};
+ghost use Rattle.felica_format.specs.Basic.{word_bytes};
 ghost use Rattle.felica_format.specs.Command.{end_fields, elements_of};
-ghost use Rattle.felica_format.specs.Write.{data_bytes, package_bytes, selector_bytes, words_bytes, codes_bytes, element_bytes, elements_bytes, ending_bytes, body_bytes};
+ghost use Rattle.felica_format.specs.Write.{data_bytes, package_bytes, selector_bytes, codes_bytes, element_bytes, elements_bytes, ending_bytes, body_bytes};
 ghost use Rattle.felica_layout.specs.Layout.{layout_meant, selector_meant, codes_meant, ending_meant, behind_meant};
 ghost use Rattle.felica_put.specs.Output.{Puts};
 ghost use Rattle.felica_writable.specs.Handed.{handed_by};
-ghost use Rattle.felica_write.specs.Body.{Ready, element};
+ghost use Rattle.felica_write.specs.Body.{IsFew, Ready, element};
 
 use felica_command::fixed::Fixed;
 use felica_format::constants::Bounds;
@@ -15,7 +15,7 @@ use felica_put::Output;
 use felica_writable::handed::Handed;
 
 // The least block number that takes two bytes.
-const LEAST_LONG: u16 = 256;
+pub(crate) const LEAST_LONG: u16 = 256;
 
 pub(crate) fn put_body(out: &mut Output<'_, u8>, layout: Layout, command: Handed<'_>)
     requires { Ready (handed_by command) }
@@ -51,21 +51,15 @@ fn put_selector(out: &mut Output<'_, u8>, selector: Option<Selector>, value: u8)
     }
 }
 
+// The count, and the codes.
 #[tactic(auto, unfolding(felica_format::specs::Write::codes_bytes, felica_put::specs::Put::put))]
 fn put_codes(out: &mut Output<'_, u8>, codes: Option<Bounds>, list: &[u16])
-    requires { length list.now ≤ 255 }
+    requires { IsFew list.now }
     ensures { Puts out.old out.new (codes_bytes (codes_meant codes) list.now) }
 {
-    if codes.is_some() {
-        put_counted(out, list);
+    if codes.is_none() {
+        return;
     }
-}
-
-// The count, and the codes.
-fn put_counted(out: &mut Output<'_, u8>, list: &[u16])
-    requires { length list.now ≤ 255 }
-    ensures { Puts out.old out.new (length list.now ∷ words_bytes list.now) }
-{
     out.put(list.len() as u8);
     for &code in list {
         put_word(out, code);

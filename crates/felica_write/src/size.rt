@@ -1,14 +1,15 @@
 // How many bytes the parts of a body have.
+// Apart from `put_body`, which goes over the same parts: one walk for both would take what is put as a type parameter, and its count would add 1 for each byte where a part here is one product or sum.
 ghost use Rattle.std.specs.Prelude.{◌≡◌, cond, ◌≤◌, length, ltb};
 ghost use Rattle.felica_format.specs.Read.{size_of};
-ghost use Rattle.felica_command.specs.Places.{selector_size, codes_size};
-ghost use Rattle.felica_layout.specs.Layout.{layout_meant, selector_meant, codes_meant, ending_meant};
+ghost use Rattle.felica_layout.specs.Layout.{layout_meant, ending_meant};
 ghost use Rattle.felica_writable.specs.Handed.{handed_by};
-ghost use Rattle.felica_write.specs.Body.{Ready};
+ghost use Rattle.felica_write.specs.Body.{IsFew, Ready};
 ghost use Rattle.felica_write.specs.Size.{short_size, front_size};
 
-use felica_format::constants::{Bounds, IDM_LEN};
-use felica_layout::{Ending, Layout, Selector};
+use crate::body::LEAST_LONG;
+use felica_format::constants::IDM_LEN;
+use felica_layout::{Ending, Layout};
 use felica_writable::handed::Handed;
 
 // All but the package: 5,893 bytes at most, so that sums with it are safe.
@@ -17,13 +18,12 @@ pub(crate) fn body_size(layout: Layout, command: Handed<'_>) -> usize
     ensures size { result ≡ front_size (layout_meant layout) (length command.entry.first.now) (length command.entry.second.now) command.entry.numbers.now (length command.entry.data.now) }
     ensures bound { result ≤ 6000 }
 {
-    let lists = codes_size(layout.first, command.first.len())
-        + codes_size(layout.second, command.second.len());
-    let blocks = size_if(layout.elements, 1 + short_size(command.numbers)) + command.data.len();
     size_if(layout.idm, IDM_LEN)
-        + selector_size(layout.selector)
-        + lists
-        + blocks
+        + size_if(layout.selector.is_some(), 1)
+        + size_if(layout.first.is_some(), 1 + 2 * command.first.len())
+        + size_if(layout.second.is_some(), 1 + 2 * command.second.len())
+        + size_if(layout.elements, 1 + short_size(command.numbers))
+        + command.data.len()
         + ending_size(layout.ending)
 }
 
@@ -34,30 +34,9 @@ fn size_if(present: bool, size: usize) -> usize
     if present { size } else { 0 }
 }
 
-fn selector_size(selector: Option<Selector>) -> usize
-    ensures size { result ≡ selector_size (selector_meant selector) }
-    ensures bound { result ≤ 1 }
-{
-    match selector {
-        None => 0,
-        Some(_) => 1,
-    }
-}
-
-fn codes_size(codes: Option<Bounds>, count: usize) -> usize
-    requires { count ≤ 255 }
-    ensures size { result ≡ codes_size (codes_meant codes) count }
-    ensures bound { result ≤ 511 }
-{
-    match codes {
-        None => 0,
-        Some(_) => 1 + 2 * count,
-    }
-}
-
 // Elements in their shortest form.
 fn short_size(numbers: &[u16]) -> usize
-    requires { length numbers.now ≤ 255 }
+    requires { IsFew numbers.now }
     ensures size { result ≡ short_size numbers.now }
     ensures bound { result ≤ 765 }
 {
@@ -67,7 +46,7 @@ fn short_size(numbers: &[u16]) -> usize
 fn element_size(number: u16) -> usize
     ensures { result ≡ cond (ltb number 256) 2 3 }
 {
-    if number < 256 { 2 } else { 3 }
+    if number < LEAST_LONG { 2 } else { 3 }
 }
 
 fn ending_size(ending: Option<Ending>) -> usize
