@@ -2,4 +2,3 @@ pub mod Placed
 pub mod Entries
 pub mod Digits
 pub mod Noting
-pub mod Strays

@@ -24,7 +24,7 @@ pub(crate) enum Form {
 }
 
 impl Form {
-    // The form that this letter or digit stands for.
+    // The form that this letter or digit stands for. No `TryFrom`: there is no error to tell, and `form_of` would drop it again by `ok()`.
     #[tactic(auto, unfolding(crate::specs::Form::form_of_letter))]
     pub(crate) fn from_letter(letter: u8) -> Option<Form>
         ensures { result ≡ form_of_letter letter }
@@ -55,7 +55,7 @@ impl Form {
         ensures { result ≡ well_formed self value.now }
     {
         match self {
-            Form::Bytes(count) => has_digits(value, 2 * count as usize),
+            Form::Bytes(count) => has_digits(value, 2 * usize::from(count)),
             Form::Challenge => has_digits(value, 16) || has_digits(value, 32),
             Form::Words => is_list(value, 4, 4),
             Form::Numbers => is_list(value, 1, 2),

@@ -6,6 +6,7 @@ ghost use Rattle.felica_format.specs.Basic.{zeros};
 ghost use Rattle.felica_put.specs.Output.{Puts};
 ghost use Rattle.felica_calls.specs.Write.{max_room};
 ghost use Rattle.felica_named.specs.Handed.{command_over, command_named};
+ghost use Rattle.felica_named.specs.Named.{noted_in};
 ghost use Rattle.felica_write.specs.Writing.{writing};
 ghost use Rattle.felica_answers.specs.Written.{written_line};
 ghost use Rattle.felica_writing.specs.Answer.{write_answer};
@@ -44,7 +45,7 @@ pub fn answer_write(size: usize, code: u8, text: &[u8], out: &mut Output<u8>)
 
 fn answer_named(size: usize, code: u8, named: &Named, out: &mut Output<u8>)
     requires { size ≤ max_room }
-    ensures { Puts out.old out.new (written_line (writing (command_named code named.now.text.now named.now.starts) (zeros size))) }
+    ensures { Puts out.old out.new (written_line (writing (command_named code (noted_in named.now)) (zeros size))) }
 {
     let mut first = [0u16; MAX_WORDS];
     let mut second = [0u16; MAX_WORDS];
@@ -83,7 +84,7 @@ fn answer_from(
     room: &mut [u8],
     out: &mut Output<u8>,
 )
-    ensures { Puts out.old out.new (written_line (writing (command_over code named.now.text.now named.now.starts first.old second.old numbers.old places.old modes.old «data».old «package».old) room.old)) }
+    ensures { Puts out.old out.new (written_line (writing (command_over code (noted_in named.now) first.old second.old numbers.old places.old modes.old «data».old «package».old) room.old)) }
 {
     let mut first = Output::new(first);
     named.numbers(Field::First, &mut first);
