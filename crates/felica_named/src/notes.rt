@@ -22,23 +22,13 @@ impl<'a> Named<'a> {
         let table = names();
         let mut starts = [None; NAMES];
         let mut at = 0;
-        while at < text.len() {
-            let field = field_at(text, at);
+        // Each field begins with its space; a first one need not have it.
+        for field in text.chunk_by(|_, next| *next != b' ') {
             note(table, field, at, &mut starts)?;
             at += field.len();
         }
         Ok(Named { text, starts })
     }
-}
-
-// A field with the space before it.
-fn field_at(text: &[u8], at: usize) -> &[u8]
-    requires { at < length text.now }
-    ensures { result.now ≡ field_at text.now at }
-{
-    let name = at + 1;
-    let end = name + find(&text[name..], b' ');
-    &text[at..end]
 }
 
 #[tactic(auto, unfolding(crate::specs::Notes::note, crate::specs::Notes::note_placed))]
