@@ -58,10 +58,5 @@ pub(crate) fn place_in(table: &[u8], key: &[u8]) -> Option<usize>
     ensures place { result ≡ place_in key.now table.now }
     ensures inside { IfSome result (λ place. place < length table.now) }
 {
-    for i in 0..table.len() {
-        if table[i..].starts_with(key) {
-            return Some(i);
-        }
-    }
-    None
+    (0..table.len()).find(|place| table[*place..].starts_with(key))
 }
