@@ -6,7 +6,7 @@ use Rattle.felica_format.specs.Basic.{zeros}
 use Rattle.felica_format.specs.Command.{Command}
 use Rattle.felica_command.specs.Handed.{handed}
 use Rattle.felica_command.specs.declared.fixed.Fixed.{Fixed}
-use Rattle.felica_put.specs.Put.{Buffer, buffer, put}
+use Rattle.felica_put.specs.Put.{BufferOf, buffer, put}
 use Rattle.felica_calls.specs.Bytes.{bytes_of}
 use Rattle.felica_named.specs.Fields.{place}
 use Rattle.felica_named.specs.Notes.{Noted}
@@ -129,10 +129,10 @@ unfoldable pub fixed_named : ℕ → Noted → Fixed
 fixed_named code noted = fixed_with (sources_of code) noted (stray_of (sources_of code) noted)
 
 -- what stands at the front of a buffer when a list was put there
-abbrev pub front_of : Buffer → List ℕ
+abbrev pub front_of : {A : Type 0} → BufferOf A → List A
 front_of b = take b.next b.bytes
 
-abbrev pub front_with : List ℕ → List ℕ → List ℕ
+abbrev pub front_with : {A : Type 0} → List A → List A → List A
 front_with held list = front_of (put (buffer held 0) list)
 
 -- the command whose lists, data and package are written to these buffers
