@@ -1,6 +1,7 @@
 -- Which values are well formed, by the form that stands behind the name.
 -- Assumes nothing.
 use Rattle.std.specs.Prelude.{ℕ, ◌+◌, ◌*◌, ◌%◌, Bool, true, false, cond, List, [], ◌∷◌, length, leb, eqb, Option, None, Some}
+-- std has no name for the code of a character
 use Prim.Native.Char.{code}
 use Rattle.felica_format.specs.Basic.{◌and◌}
 use Rattle.felica_text.specs.Text.{digit_of}

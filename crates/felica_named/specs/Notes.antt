@@ -1,6 +1,7 @@
 -- The fields are noted one after the other, each behind one space: where the value begins, at the number of the name.
 -- Assumes nothing.
 use Rattle.std.specs.Prelude.{ℕ, zero, suc, ◌+◌, not, cond, List, length, get_or, set, take, drop, replicate, ltb, leb, eqb, Option, None, Some, is_some, Result, Ok, Err}
+-- std has no name for the code of a character
 use Prim.Native.Char.{code}
 use Rattle.felica_text.specs.Text.{before}
 use Rattle.felica_calls.specs.Read.{◌>>=◌}

@@ -2,6 +2,7 @@
 -- Assumes nothing.
 use Rattle.std.specs.Prelude.{ℕ, ◌+◌, ◌*◌, ◌%◌, Bool, cond, List, [], ◌∷◌, length, get_or, drop, eqb, Option, None, Some}
 use Rattle.std.specs.List.{list_all}
+-- std has no name for the code of a character
 use Prim.Native.Char.{code}
 use Rattle.felica_format.specs.Basic.{zeros, word_of}
 use Rattle.felica_put.specs.Put.{buffer, put}

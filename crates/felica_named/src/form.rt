@@ -106,5 +106,5 @@ fn are_entries(value: &[u8], least: usize, most: usize) -> bool
 fn is_entry(count: usize, least: usize, most: usize) -> bool
     ensures { result ≡ entry_well least most count }
 {
-    least <= count && count <= most
+    (least..=most).contains(&count)
 }

@@ -23,9 +23,7 @@ pub trait Number: Copy {
         requires { digits < 16 * KEPT }
         ensures { result ≡ number digits };
 
-    ghost some: { 0 < KEPT };
-
-    ghost few: { KEPT ≤ 4096 };
+    ghost range: { (0 < KEPT) × (KEPT ≤ 4096) };
 }
 
 impl Number for u16 {
@@ -39,9 +37,7 @@ impl Number for u16 {
         digits
     }
 
-    ghost some = { Prim.search rules };
-
-    ghost few = { Prim.search rules };
+    ghost range = { Prim.search rules };
 }
 
 impl Number for u8 {
@@ -55,9 +51,7 @@ impl Number for u8 {
         digits as u8
     }
 
-    ghost some = { Prim.search rules };
-
-    ghost few = { Prim.search rules };
+    ghost range = { Prim.search rules };
 }
 
 impl Named<'_> {
@@ -65,10 +59,7 @@ impl Named<'_> {
         ensures { Puts numbers.old numbers.new (map T.number (numbers_in T.KEPT (value_named (noted_in self.now) field))) }
     {
         let value = self.value(field);
-        if value.is_empty() {
-            return;
-        }
-        if value != b"-".as_slice() {
+        if !value.is_empty() && value != b"-".as_slice() {
             put_numbers(value, numbers);
         }
     }

@@ -39,9 +39,8 @@ pub(crate) fn value_at(text: &[u8], start: Option<usize>) -> &[u8]
     ensures { result.now ≡ value_at text.now start }
 {
     match start {
+        Some(start) => field_of(text.get(start..).unwrap_or(&[])),
         None => &[],
-        Some(start) if text.len() < start => &[],
-        Some(start) => field_of(&text[start..]),
     }
 }
 
