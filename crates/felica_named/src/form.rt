@@ -3,7 +3,6 @@ ghost use Rattle.std.specs.Prelude.{◌≡◌};
 ghost use Rattle.felica_named.specs.Form.{longest, form_of_letter, well_formed, challenge_form, has_digits, is_bytes, is_list, entries, entry_well};
 
 use felica_calls::bytes::all_digits;
-use felica_text::hex::digit_value;
 
 // 1024 codes or block numbers with the commas between them; 16384 bytes.
 const MAX_LIST_TEXT: usize = 5119;
@@ -84,27 +83,15 @@ fn is_list(value: &[u8], least: usize, most: usize) -> bool
 }
 
 fn are_entries(value: &[u8], least: usize, most: usize) -> bool
-    ensures { result ≡ entries least most 0 value.now }
+    ensures { result ≡ entries least most value.now }
 {
-    let mut count: usize = 0;
-    for &byte in value {
-        if byte == b',' {
-            if !is_entry(count, least, most) {
-                return false;
-            }
-            count = 0;
-        } else {
-            match digit_value(byte) {
-                Some(_) => count += 1,
-                None => return false,
-            }
-        }
-    }
-    is_entry(count, least, most)
+    value
+        .split(|byte| *byte == b',')
+        .all(|entry| is_entry(entry, least, most))
 }
 
-fn is_entry(count: usize, least: usize, most: usize) -> bool
-    ensures { result ≡ entry_well least most count }
+fn is_entry(entry: &[u8], least: usize, most: usize) -> bool
+    ensures { result ≡ entry_well least most entry.now }
 {
-    (least..=most).contains(&count)
+    (least..=most).contains(&entry.len()) && all_digits(entry)
 }
