@@ -1,7 +1,6 @@
 -- `felica_named::form::are_entries` meets its contract.
 -- Assumes nothing.
 use Rattle.std.proofs.Common.{eqb, rules, tests}
-use Rattle.std.proofs.lemmas.Iterator.Consumers.{YieldsList-at}
 use Rattle.std.proofs.lemmas.Iterator.Splits.{YieldsList-from_slice_split}
 use Rattle.std.proofs.lemmas.Iterator.Search.{all_from_yields_List}
 use Rattle.felica_named.specs.Form.{entry_well}
