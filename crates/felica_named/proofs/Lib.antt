@@ -1,5 +1,4 @@
 pub mod Placed
-pub mod Entries
 pub mod Digits
 pub mod Noting
-pub mod Strays
+pub mod Chunks

@@ -1,11 +1,11 @@
 -- Which values are well formed, by the form that stands behind the name.
 -- Assumes nothing.
-use Rattle.std.specs.Prelude.{ℕ, ◌+◌, ◌*◌, ◌%◌, Bool, true, false, cond, List, [], ◌∷◌, length, leb, eqb, Option, None, Some}
+use Rattle.std.specs.Prelude.{ℕ, ◌*◌, ◌%◌, Bool, true, false, ◌&&◌, cond, List, length, leb, eqb, Option, None, Some}
+use Rattle.std.specs.List.{list_all, slice_split}
+-- std has no name for the code of a character
 use Prim.Native.Char.{code}
-use Rattle.felica_format.specs.Basic.{◌and◌}
-use Rattle.felica_text.specs.Text.{digit_of}
 use Rattle.felica_calls.specs.Field.{is_byte}
-use Rattle.felica_calls.specs.Bytes.{is_digit, all_digits}
+use Rattle.felica_calls.specs.Bytes.{all_digits}
 use Rattle.felica_named.specs.declared.form.Form.{Form}
 use Rattle.felica_named.specs.declared.form.Form.TheVariants.{Bytes, Challenge, Words, Numbers, AnyBytes}
 
@@ -21,19 +21,17 @@ challenge_form s = cond (has_digits 16 s) true (has_digits 32 s)
 abbrev pub is_bytes : List ℕ → Bool
 is_bytes s = cond (is_byte (code "-") s) true (cond (eqb (length s) 0) false (cond (eqb (length s % 2) 1) false (all_digits s)))
 
-abbrev pub entry_well : ℕ → ℕ → ℕ → Bool
-entry_well least most k = cond (leb least k) (leb k most) false
+-- `least` to `most` digits
+abbrev pub entry_well : ℕ → ℕ → List ℕ → Bool
+entry_well least most s = leb least (length s) && leb (length s) most && all_digits s
 
--- entries of `least` to `most` digits, parted by commas; k digits of the first stand before them
-unfoldable pub entries : ℕ → ℕ → ℕ → List ℕ → Bool
-entries least most k [] = entry_well least most k
-entries least most k (d ∷ ds) =
-    cond (eqb d (code ",")) (entry_well least most k and entries least most 0 ds)
-    (is_digit (digit_of d) and entries least most (k + 1) ds)
+-- such entries, parted by commas
+abbrev pub entries : ℕ → ℕ → List ℕ → Bool
+entries least most s = list_all (entry_well least most) (slice_split (λ d. eqb d (code ",")) s)
 
 -- such entries, or `-` for none
 abbrev pub is_list : ℕ → ℕ → List ℕ → Bool
-is_list least most s = cond (is_byte (code "-") s) true (entries least most 0 s)
+is_list least most s = cond (is_byte (code "-") s) true (entries least most s)
 
 -- the form that a letter or digit stands for
 unfoldable pub form_of_letter : ℕ → Option Form

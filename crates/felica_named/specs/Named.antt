@@ -1,9 +1,13 @@
 -- What the program holds of the fields noted.
 -- Assumes nothing.
-use Rattle.std.specs.Prelude.{ℕ, List, Option, Result, Ok, Err}
+use Rattle.std.specs.Prelude.{Result, Ok, Err}
 use Rattle.felica_calls.specs.declared.fault.Fault.{Fault}
+use Rattle.felica_named.specs.Notes.{Noted}
 use Rattle.felica_named.specs.declared.notes.Named.{Named}
 
-abbrev pub starts_of : Result Named Fault → Result (List (Option ℕ)) Fault
-starts_of (Ok named) = Ok named.starts
-starts_of (Err fault) = Err fault
+abbrev pub noted_in : Named → Noted
+noted_in named = record { text = named.text.now; starts = named.starts }
+
+abbrev pub answer_in : Result Named Fault → Result Noted Fault
+answer_in (Ok named) = Ok (noted_in named)
+answer_in (Err fault) = Err fault

@@ -3,6 +3,7 @@
 use Rattle.std.specs.Prelude.{ℕ, suc, Bool, cond, List, [], ◌∷◌, length, Option, None, Some, nat_eq}
 use Rattle.std.specs.Option.{option_map, unwrap_or}
 use Rattle.std.specs.List.{starts_with}
+-- std has no name for the type of a text between quotes
 use Prim.Native.String.{String}
 use Rattle.felica_text.specs.Text.{text}
 

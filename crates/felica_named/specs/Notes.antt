@@ -1,6 +1,7 @@
 -- The fields are noted one after the other, each behind one space: where the value begins, at the number of the name.
 -- Assumes nothing.
 use Rattle.std.specs.Prelude.{ℕ, zero, suc, ◌+◌, not, cond, List, length, get_or, set, take, drop, replicate, ltb, leb, eqb, Option, None, Some, is_some, Result, Ok, Err}
+-- std has no name for the code of a character
 use Prim.Native.Char.{code}
 use Rattle.felica_text.specs.Text.{before}
 use Rattle.felica_calls.specs.Read.{◌>>=◌}
@@ -14,6 +15,11 @@ use Rattle.felica_named.specs.declared.form.Form.TheVariants.{Challenge}
 -- where the values begin, at the numbers of their names
 abbrev pub Starts : Type 0
 Starts = List (Option ℕ)
+
+-- the fields of a call: their text, and where the values begin in it
+pub record Noted : Type 0 where
+  pub text : List ℕ
+  pub starts : Starts
 
 -- no field is named
 abbrev pub no_starts : Starts
@@ -74,5 +80,13 @@ note_from (suc turns) table s at starts =
     cond (leb (length s) at) (Ok starts)
     (note table (field_at s at) at starts >>= note_from turns table s (at + length (field_at s at)))
 
-abbrev pub fields_noted : List ℕ → Result Starts Fault
-fields_noted s = note_from (length s) names s 0 no_starts
+abbrev pub starts_noted : List ℕ → Result Starts Fault
+starts_noted s = note_from (length s) names s 0 no_starts
+
+-- what is wrong with them, or the fields noted
+abbrev pub noted_of : List ℕ → Result Starts Fault → Result Noted Fault
+noted_of s (Ok starts) = Ok (record { text = s; starts = starts })
+noted_of s (Err fault) = Err fault
+
+abbrev pub fields_noted : List ℕ → Result Noted Fault
+fields_noted s = noted_of s (starts_noted s)

@@ -2,6 +2,7 @@
 -- Assumes nothing.
 use Rattle.std.specs.Prelude.{ℕ, ◌+◌, ◌*◌, ◌%◌, Bool, cond, List, [], ◌∷◌, length, get_or, drop, eqb, Option, None, Some}
 use Rattle.std.specs.List.{list_all}
+-- std has no name for the code of a character
 use Prim.Native.Char.{code}
 use Rattle.felica_format.specs.Basic.{zeros, word_of}
 use Rattle.felica_put.specs.Put.{buffer, put}
@@ -9,7 +10,7 @@ use Rattle.felica_text.specs.Text.{digit_of}
 use Rattle.felica_calls.specs.Field.{field_of, is_byte}
 use Rattle.felica_calls.specs.Bytes.{value_of, bytes_of}
 use Rattle.felica_named.specs.Fields.{place}
-use Rattle.felica_named.specs.Notes.{Starts}
+use Rattle.felica_named.specs.Notes.{Noted}
 use Rattle.felica_named.specs.declared.names.Field.{Field}
 
 -- the value that begins at a place of the text
@@ -18,8 +19,8 @@ value_at s None = []
 value_at s (Some start) = field_of (drop start s)
 
 -- the value of a field
-abbrev pub value_named : List ℕ → Starts → Field → List ℕ
-value_named s starts field = value_at s (get_or starts (place field) None)
+abbrev pub value_named : Noted → Field → List ℕ
+value_named noted field = value_at noted.text (get_or noted.starts (place field) None)
 
 -- Hexadecimal numbers parted by commas: n is that of the digits before, and of it what counts below `kept` is kept, so that a number stays within its type.
 unfoldable pub numbers_from : ℕ → ℕ → List ℕ → List ℕ

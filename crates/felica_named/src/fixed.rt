@@ -2,70 +2,72 @@
 ghost use Rattle.std.specs.Prelude.{◌≡◌};
 ghost use Rattle.felica_format.specs.Basic.{zeros};
 ghost use Rattle.felica_named.specs.Handed.{byte_handed, word_handed, challenge_handed, fixed_named};
+ghost use Rattle.felica_named.specs.Values.{value_named, bytes_over};
+ghost use Rattle.felica_named.specs.Named.{noted_in};
 
 use crate::names::Field;
 use crate::notes::Named;
-use crate::stray::{
-    challenge_from, choice_from, index_from, number_from, option_from, parameter_from,
-    selector_from,
-};
+use crate::stray::Sources;
 use felica_command::fixed::Fixed;
-use felica_cursor::cursor::word_of;
 
 impl Named<'_> {
-    // Where a field is named that the command lacks, a number that it lacks is 1, so that the writer refuses it.
     #[tactic(auto, unfolding(crate::specs::Handed::fixed_named))]
     pub fn fixed(&self, code: u8) -> Fixed
-        ensures { result ≡ fixed_named code self.now.text.now self.now.starts }
+        ensures { result ≡ fixed_named code (noted_in self.now) }
     {
-        let stray = self.has_stray(code);
-        let mut idm = [0u8; 8];
-        self.fill(Field::Idm, &mut idm);
-        let mut challenge = [0u8; 16];
-        self.fill_challenge(code, &mut challenge);
+        let sources = Sources::of(code);
+        let stray = self.has_stray(sources);
         Fixed {
-            idm,
-            selector: self.byte_handed(stray, selector_from(code)),
-            number: self.word_handed(stray, number_from(code)),
-            index: self.word_handed(stray, index_from(code)),
-            option: self.byte_handed(stray, option_from(code)),
-            choice: self.byte_handed(stray, choice_from(code)),
-            challenge,
+            idm: self.filled(Field::Idm),
+            selector: self.byte_handed(stray, sources.selector),
+            number: self.word_handed(stray, sources.number),
+            index: self.word_handed(stray, sources.index),
+            option: self.byte_handed(stray, sources.option),
+            choice: self.byte_handed(stray, sources.choice),
+            challenge: self.challenge_handed(sources),
         }
     }
 
+    // A number that the command lacks is 1 where a field is named that it lacks: the writer's numbers are shared by commands, and of one that a command lacks it refuses all
+    // but 0.
     fn byte_handed(&self, stray: bool, field: Option<Field>) -> u8
-        ensures { result ≡ byte_handed self.now.text.now self.now.starts stray field }
+        ensures { result ≡ byte_handed (noted_in self.now) stray field }
     {
-        let Some(field) = field else {
-            return stray as u8;
-        };
-        let mut byte = [0u8; 1];
-        self.fill(field, &mut byte);
-        byte[0]
+        match field {
+            Some(field) => self.filled::<1>(field)[0],
+            None => u8::from(stray),
+        }
     }
 
     fn word_handed(&self, stray: bool, field: Option<Field>) -> u16
-        ensures { result ≡ word_handed self.now.text.now self.now.starts stray field }
+        ensures { result ≡ word_handed (noted_in self.now) stray field }
     {
-        let Some(field) = field else {
-            return stray as u16;
-        };
-        let mut bytes = [0u8; 2];
-        self.fill(field, &mut bytes);
-        word_of(bytes[1], bytes[0])
+        match field {
+            Some(field) => u16::from_be_bytes(self.filled(field)),
+            None => u16::from(stray),
+        }
     }
 
     // Of 80, the issue parameter stands behind the issue id.
-    fn fill_challenge(&self, code: u8, challenge: &mut [u8])
-        requires { challenge.old ≡ zeros 16 }
-        ensures { challenge.new ≡ challenge_handed code self.now.text.now self.now.starts }
+    fn challenge_handed(&self, sources: Sources) -> [u8; 16]
+        ensures { result ≡ challenge_handed sources (noted_in self.now) }
     {
-        if let Some(field) = parameter_from(code) {
+        let mut challenge = [0; 16];
+        if let Some(field) = sources.parameter {
             self.fill(field, &mut challenge[8..]);
         }
-        if let Some(field) = challenge_from(code) {
-            self.fill(field, challenge);
+        if let Some(field) = sources.challenge {
+            self.fill(field, &mut challenge);
         }
+        challenge
+    }
+
+    // The bytes of a field, and zeros behind them.
+    fn filled<const N: usize>(&self, field: Field) -> [u8; N]
+        ensures { result ≡ bytes_over (zeros N) (value_named (noted_in self.now) field) }
+    {
+        let mut bytes = [0; N];
+        self.fill(field, &mut bytes);
+        bytes
     }
 }

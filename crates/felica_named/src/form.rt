@@ -3,7 +3,6 @@ ghost use Rattle.std.specs.Prelude.{◌≡◌};
 ghost use Rattle.felica_named.specs.Form.{longest, form_of_letter, well_formed, challenge_form, has_digits, is_bytes, is_list, entries, entry_well};
 
 use felica_calls::bytes::all_digits;
-use felica_text::hex::digit_value;
 
 // 1024 codes or block numbers with the commas between them; 16384 bytes.
 const MAX_LIST_TEXT: usize = 5119;
@@ -24,7 +23,7 @@ pub(crate) enum Form {
 }
 
 impl Form {
-    // The form that this letter or digit stands for.
+    // The form that this letter or digit stands for. No `TryFrom`: there is no error to tell, and `form_of` would drop it again by `ok()`.
     #[tactic(auto, unfolding(crate::specs::Form::form_of_letter))]
     pub(crate) fn from_letter(letter: u8) -> Option<Form>
         ensures { result ≡ form_of_letter letter }
@@ -55,7 +54,7 @@ impl Form {
         ensures { result ≡ well_formed self value.now }
     {
         match self {
-            Form::Bytes(count) => has_digits(value, 2 * count as usize),
+            Form::Bytes(count) => has_digits(value, 2 * usize::from(count)),
             Form::Challenge => has_digits(value, 16) || has_digits(value, 32),
             Form::Words => is_list(value, 4, 4),
             Form::Numbers => is_list(value, 1, 2),
@@ -84,27 +83,15 @@ fn is_list(value: &[u8], least: usize, most: usize) -> bool
 }
 
 fn are_entries(value: &[u8], least: usize, most: usize) -> bool
-    ensures { result ≡ entries least most 0 value.now }
+    ensures { result ≡ entries least most value.now }
 {
-    let mut count: usize = 0;
-    for &byte in value {
-        if byte == b',' {
-            if !is_entry(count, least, most) {
-                return false;
-            }
-            count = 0;
-        } else {
-            match digit_value(byte) {
-                Some(_) => count += 1,
-                None => return false,
-            }
-        }
-    }
-    is_entry(count, least, most)
+    value
+        .split(|byte| *byte == b',')
+        .all(|entry| is_entry(entry, least, most))
 }
 
-fn is_entry(count: usize, least: usize, most: usize) -> bool
-    ensures { result ≡ entry_well least most count }
+fn is_entry(entry: &[u8], least: usize, most: usize) -> bool
+    ensures { result ≡ entry_well least most entry.now }
 {
-    least <= count && count <= most
+    (least..=most).contains(&entry.len()) && all_digits(entry)
 }

@@ -3,6 +3,7 @@ ghost use Rattle.std.specs.Prelude.{◌≡◌, ℕ, ◌*◌, ◌<◌, ◌≤◌,
 ghost use Rattle.std.proofs.Common.{rules};
 ghost use Rattle.felica_put.specs.Output.{Puts};
 ghost use Rattle.felica_named.specs.Values.{value_named, numbers_in, numbers_from};
+ghost use Rattle.felica_named.specs.Named.{noted_in};
 
 use crate::names::Field;
 use crate::notes::Named;
@@ -22,9 +23,7 @@ pub trait Number: Copy {
         requires { digits < 16 * KEPT }
         ensures { result ≡ number digits };
 
-    ghost some: { 0 < KEPT };
-
-    ghost few: { KEPT ≤ 4096 };
+    ghost range: { (0 < KEPT) × (KEPT ≤ 4096) };
 }
 
 impl Number for u16 {
@@ -38,9 +37,7 @@ impl Number for u16 {
         digits
     }
 
-    ghost some = { Prim.search rules };
-
-    ghost few = { Prim.search rules };
+    ghost range = { Prim.search rules };
 }
 
 impl Number for u8 {
@@ -54,20 +51,15 @@ impl Number for u8 {
         digits as u8
     }
 
-    ghost some = { Prim.search rules };
-
-    ghost few = { Prim.search rules };
+    ghost range = { Prim.search rules };
 }
 
 impl Named<'_> {
     pub fn numbers<T: Number>(&self, field: Field, numbers: &mut Output<T>)
-        ensures { Puts numbers.old numbers.new (map T.number (numbers_in T.KEPT (value_named self.now.text.now self.now.starts field))) }
+        ensures { Puts numbers.old numbers.new (map T.number (numbers_in T.KEPT (value_named (noted_in self.now) field))) }
     {
         let value = self.value(field);
-        if value.is_empty() {
-            return;
-        }
-        if value != b"-".as_slice() {
+        if !value.is_empty() && value != b"-".as_slice() {
             put_numbers(value, numbers);
         }
     }
@@ -82,7 +74,7 @@ fn put_numbers<T: Number>(value: &[u8], numbers: &mut Output<T>)
             numbers.put(T::number(number));
             number = 0;
         } else {
-            number = number % T::KEPT * 16 + value_of(digit) as u16;
+            number = number % T::KEPT * 16 + u16::from(value_of(digit));
         }
     }
     numbers.put(T::number(number));

@@ -43,6 +43,7 @@ pub enum Field {
 }
 
 impl Field {
+    // A method and no `From<Field> for usize`: its contract has two clauses, and `starts[usize::from(field)]` would not say which number that is.
     #[tactic(auto, unfolding(crate::specs::Fields::place, crate::specs::Names::names, crate::specs::Names::place_in))]
     pub fn place(self) -> usize
         ensures number { result ≡ place self }
@@ -57,10 +58,5 @@ pub(crate) fn place_in(table: &[u8], key: &[u8]) -> Option<usize>
     ensures place { result ≡ place_in key.now table.now }
     ensures inside { IfSome result (λ place. place < length table.now) }
 {
-    for i in 0..table.len() {
-        if table[i..].starts_with(key) {
-            return Some(i);
-        }
-    }
-    None
+    (0..table.len()).find(|place| table[*place..].starts_with(key))
 }

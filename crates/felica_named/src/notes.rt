@@ -1,16 +1,15 @@
 // A walk along the fields. Each is noted by where its value begins, at the number of its name, or what is wrong with it is told.
 ghost use Rattle.std.specs.Prelude.{◌≡◌, ◌+◌, ◌<◌, ◌^◌, length, IfOk};
 ghost use Rattle.felica_named.specs.Notes.{noted, fields_noted, note, note_value, form_of, slot_of, field_at};
-ghost use Rattle.felica_named.specs.Named.{starts_of};
+ghost use Rattle.felica_named.specs.Named.{answer_in};
 
 use crate::form::Form;
 use crate::names::{NAMES, names, place_in};
 use felica_calls::fault::Fault;
-use felica_calls::field::field_of;
 use felica_text::find::find;
 
 // The fields of a writer's call: their text, and at the number of each name where its value begins there.
-#[derive(Clone, Copy)]
+#[derive(Clone, Copy, Debug, PartialEq, Eq)]
 pub struct Named<'a> {
     pub text: &'a [u8],
     pub starts: [Option<usize>; NAMES],
@@ -18,29 +17,18 @@ pub struct Named<'a> {
 
 impl<'a> Named<'a> {
     pub fn read(text: &'a [u8]) -> Result<Named<'a>, Fault>
-        ensures starts { starts_of result ≡ fields_noted text.now }
-        ensures text { IfOk result (λ named. named.text.now ≡ text.now) }
+        ensures { answer_in result ≡ fields_noted text.now }
     {
         let table = names();
         let mut starts = [None; NAMES];
         let mut at = 0;
-        while at < text.len() {
-            let field = field_at(text, at);
+        // Each field begins with its space; a first one need not have it.
+        for field in text.chunk_by(|_, next| *next != b' ') {
             note(table, field, at, &mut starts)?;
             at += field.len();
         }
         Ok(Named { text, starts })
     }
-}
-
-// A field with the space before it.
-fn field_at(text: &[u8], at: usize) -> &[u8]
-    requires { at < length text.now }
-    ensures { result.now ≡ field_at text.now at }
-{
-    let name = at + 1;
-    let end = name + field_of(&text[name..]).len();
-    &text[at..end]
 }
 
 #[tactic(auto, unfolding(crate::specs::Notes::note, crate::specs::Notes::note_placed))]

@@ -6,16 +6,16 @@ use Rattle.felica_calls.specs.Fault.{fault_text}
 use Rattle.felica_calls.specs.Write.{max_room}
 use Rattle.felica_calls.specs.declared.fault.Fault.{Fault}
 use Rattle.felica_calls.specs.declared.fault.Fault.TheVariants.{BufferTooLong}
-use Rattle.felica_named.specs.Notes.{Starts, fields_noted}
+use Rattle.felica_named.specs.Notes.{Noted, fields_noted}
 use Rattle.felica_named.specs.Handed.{command_named}
 use Rattle.felica_write.specs.Writing.{writing}
 use Rattle.felica_answers.specs.Written.{written_line}
 
 -- what is wrong with the fields, or the line of what the writer answers with a buffer of `size` zeros
-abbrev pub answer_noted : ℕ → ℕ → List ℕ → Result Starts Fault → List ℕ
-answer_noted size code s (Ok starts) = written_line (writing (command_named code s starts) (zeros size))
-answer_noted size code s (Err fault) = fault_text fault
+abbrev pub answer_noted : ℕ → ℕ → Result Noted Fault → List ℕ
+answer_noted size code (Ok noted) = written_line (writing (command_named code noted) (zeros size))
+answer_noted size code (Err fault) = fault_text fault
 
 -- s is what follows the command code
 unfoldable pub write_answer : ℕ → ℕ → List ℕ → List ℕ
-write_answer size code s = cond (ltb max_room size) (fault_text BufferTooLong) (answer_noted size code s (fields_noted s))
+write_answer size code s = cond (ltb max_room size) (fault_text BufferTooLong) (answer_noted size code (fields_noted s))

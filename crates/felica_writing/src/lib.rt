@@ -1,11 +1,14 @@
 // Answers to calls of the writer. It is lent a buffer of the size of the call, and the line is put from what stands there then.
 #![tactic(auto)]
 
-ghost use Rattle.std.specs.Prelude.{◌≡◌, ◌≤◌};
+ghost use Rattle.std.specs.Prelude.{◌≡◌, ◌≤◌, map};
 ghost use Rattle.felica_format.specs.Basic.{zeros};
 ghost use Rattle.felica_put.specs.Output.{Puts};
+ghost use Rattle.felica_calls.specs.Bytes.{bytes_of};
 ghost use Rattle.felica_calls.specs.Write.{max_room};
-ghost use Rattle.felica_named.specs.Handed.{command_over, command_named};
+ghost use Rattle.felica_named.specs.Handed.{command_named, front_with};
+ghost use Rattle.felica_named.specs.Values.{value_named, numbers_in};
+ghost use Rattle.felica_named.specs.Named.{noted_in};
 ghost use Rattle.felica_write.specs.Writing.{writing};
 ghost use Rattle.felica_answers.specs.Written.{written_line};
 ghost use Rattle.felica_writing.specs.Answer.{write_answer};
@@ -13,13 +16,14 @@ ghost use Rattle.felica_writing.specs.Answer.{write_answer};
 use felica_answers::written::put_written;
 use felica_calls::fault::{Fault, put_fault};
 use felica_calls::write::MAX_ROOM;
+use felica_named::lists::Number;
 use felica_named::names::Field;
 use felica_named::notes::Named;
 use felica_put::Output;
 use felica_writable::handed::Handed;
 use felica_write::write;
 
-// The longest lists that a well formed value has: of words in four digits, of numbers in one, and bytes in two.
+// The longest lists that a well formed value has: of words in four digits, of numbers in one, and bytes in two. There is no heap, so each is put into an array of that length.
 const MAX_WORDS: usize = 1024;
 
 const MAX_SMALL: usize = 2560;
@@ -44,72 +48,48 @@ pub fn answer_write(size: usize, code: u8, text: &[u8], out: &mut Output<u8>)
 
 fn answer_named(size: usize, code: u8, named: &Named, out: &mut Output<u8>)
     requires { size ≤ max_room }
-    ensures { Puts out.old out.new (written_line (writing (command_named code named.now.text.now named.now.starts) (zeros size))) }
+    ensures { Puts out.old out.new (written_line (writing (command_named code (noted_in named.now)) (zeros size))) }
 {
-    let mut first = [0u16; MAX_WORDS];
-    let mut second = [0u16; MAX_WORDS];
-    let mut numbers = [0u16; MAX_WORDS];
-    let mut places = [0u8; MAX_SMALL];
-    let mut modes = [0u8; MAX_SMALL];
-    let mut data = [0u8; MAX_BYTES];
-    let mut package = [0u8; MAX_BYTES];
-    let mut room = [0u8; MAX_ROOM];
-    answer_from(
-        code,
-        named,
-        &mut first,
-        &mut second,
-        &mut numbers,
-        &mut places,
-        &mut modes,
-        &mut data,
-        &mut package,
-        &mut room[..size],
-        out,
-    );
-}
-
-// The same, in buffers that are lent for what the writer takes and for what it writes.
-fn answer_from(
-    code: u8,
-    named: &Named,
-    first: &mut [u16],
-    second: &mut [u16],
-    numbers: &mut [u16],
-    places: &mut [u8],
-    modes: &mut [u8],
-    data: &mut [u8],
-    package: &mut [u8],
-    room: &mut [u8],
-    out: &mut Output<u8>,
-)
-    ensures { Puts out.old out.new (written_line (writing (command_over code named.now.text.now named.now.starts first.old second.old numbers.old places.old modes.old «data».old «package».old) room.old)) }
-{
-    let mut first = Output::new(first);
-    named.numbers(Field::First, &mut first);
-    let mut second = Output::new(second);
-    named.numbers(Field::Second, &mut second);
-    let mut numbers = Output::new(numbers);
-    named.numbers(Field::Numbers, &mut numbers);
-    let mut places = Output::new(places);
-    named.numbers(Field::Places, &mut places);
-    let mut modes = Output::new(modes);
-    named.numbers(Field::Modes, &mut modes);
-    let mut data = Output::new(data);
-    named.bytes(Field::Data, &mut data);
-    let mut package = Output::new(package);
-    named.bytes(Field::Package, &mut package);
+    let mut first = [0; MAX_WORDS];
+    let mut second = [0; MAX_WORDS];
+    let mut numbers = [0; MAX_WORDS];
+    let mut places = [0; MAX_SMALL];
+    let mut modes = [0; MAX_SMALL];
+    let mut data = [0; MAX_BYTES];
+    let mut package = [0; MAX_BYTES];
     let command = Handed {
         code,
         fixed: named.fixed(code),
-        first: first.filled(),
-        second: second.filled(),
-        numbers: numbers.filled(),
-        places: places.filled(),
-        modes: modes.filled(),
-        data: data.filled(),
-        package: package.filled(),
+        first: list_in(named, Field::First, &mut first),
+        second: list_in(named, Field::Second, &mut second),
+        numbers: list_in(named, Field::Numbers, &mut numbers),
+        places: list_in(named, Field::Places, &mut places),
+        modes: list_in(named, Field::Modes, &mut modes),
+        data: bytes_in(named, Field::Data, &mut data),
+        package: bytes_in(named, Field::Package, &mut package),
     };
+    let mut room = [0; MAX_ROOM];
+    let room = &mut room[..size];
     let written = write(command, room);
     put_written(out, written, room);
+}
+
+// The list of a field, in a lent buffer.
+fn list_in<'a, T: Number>(named: &Named, field: Field, room: &'a mut [T]) -> &'a [T]
+    ensures { result.now ≡ front_with room.old (map T.number (numbers_in T.KEPT (value_named (noted_in named.now) field))) }
+{
+    let mut list = Output::new(room);
+    named.numbers(field, &mut list);
+    let count = list.filled().len();
+    &room[..count]
+}
+
+// Its bytes, in a lent buffer.
+fn bytes_in<'a>(named: &Named, field: Field, room: &'a mut [u8]) -> &'a [u8]
+    ensures { result.now ≡ front_with room.old (bytes_of (value_named (noted_in named.now) field)) }
+{
+    let mut bytes = Output::new(room);
+    named.bytes(field, &mut bytes);
+    let count = bytes.filled().len();
+    &room[..count]
 }

@@ -10,14 +10,14 @@ pub loop-digit-preserved : goal.loop-digit-preserved
 loop-digit-preserved g c = let l = c.loop-digit in
     elim c.if-digit-eq44.branch [
       | then-digit-eq44 w ↦ record {
-        small = rw w.number-is (omega (arith, g.met.T.Number.some));
+        small = rw w.number-is (omega (arith, g.met.T.Number.range.0));
         same_reference = rw w.numbers-is (w.put.ensures.same_reference ∙ l.invariant.same_reference);
         held = rw (w.numbers-is, w.number-is) (comma_put _ _ _ _ _ _ c.loop-digit-test.true w.if-digit-eq44.true (rw w.number.ensures at w.put.ensures.held) l.invariant.held);
       }
       | else-digit-eq44 w ↦ let digit : w.value_of.result < 16 = rw w.value_of.ensures (value_small (get_or c.args.value.now l.digit-index 0)) in record {
-        small = rw (w.number-is, w.KEPT.ensures) (still_small g.T.Number.KEPT l.number w.value_of.result g.met.T.Number.some digit);
+        small = rw (w.number-is, w.KEPT.ensures, w.from.ensures) (still_small g.T.Number.KEPT l.number w.value_of.result g.met.T.Number.range.0 digit);
         same_reference = rw w.numbers-is l.invariant.same_reference;
-        held = rw (w.numbers-is, w.number-is, w.KEPT.ensures) (digit_put _ _ _ _ _ _ c.loop-digit-test.true w.if-digit-eq44.false w.value_of.ensures l.invariant.held);
+        held = rw (w.numbers-is, w.number-is, w.KEPT.ensures, w.from.ensures) (digit_put _ _ _ _ _ _ c.loop-digit-test.true w.if-digit-eq44.false w.value_of.ensures l.invariant.held);
       }
     ]
 
