@@ -156,8 +156,8 @@ impl<'a> Cursor<'a> {
         Ok((count, Cursor { at, ..self }))
     }
 
-    // The count of a list of codes, within the bounds of a plain code's row. The row is a number: the bounds stand in one table of 25 rows, and a type for the rows would ask more of
-    // callers, who may give any number.
+    // The count of a list of codes, within the bounds that a plain code's row has.
+    // The row is a number: the bounds stand in one table of 25 rows, and a type for the rows would ask more of callers, who may give any number.
     pub fn take_count(self, row: usize, reasons: CountReasons) -> Taken<'a, u8>
         ensures { Takes itself (read_count_for reasons (bounds_at row) (rest self.entry)) (To (moved self.entry 1)) result }
     {
