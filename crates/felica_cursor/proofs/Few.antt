@@ -15,7 +15,7 @@ use Rattle.felica_cursor.specs.Steps.{elements_in, ElementsFrom}
 use Rattle.felica_cursor.specs.declared.cursor.Blocks.{Blocks}
 use Rattle.felica_cursor.specs.declared.cursor.Cursor.{Cursor}
 use Rattle.felica_cursor.proofs.Blocks.{before, before_none, each_more, each_refused, each_done, long_more}
-use Rattle.felica_cursor.proofs.Laws.{front_at, at_front_2, at_front_3, long_cut, size_more, size_done}
+use Rattle.felica_cursor.proofs.Laws.{front_at, at_front_2, at_front_3, long_cut, short_cut, size_more, size_done}
 
 -- what a count that was taken says
 pub count_taken : (missing outside least greatest : ℕ) (l : List ℕ) (n : ℕ) (r : List ℕ) → read_count missing outside least greatest l ≡ taken n r
@@ -29,21 +29,27 @@ count_taken missing outside least greatest (b ∷ l) n r e =
 
 -- ── one element ─────────────────────────────────────────────────────────────
 module _ (s : List ℕ) (at : ℕ) where
-  short_here : at + 1 < length s → 128 ≤ get_or s at 0
+  pub short_here : at + 1 < length s → 128 ≤ get_or s at 0
       → read_element (drop at s) ≡ taken (formed false (element_of (get_or s at 0) (get_or s (at + 1) 0))) (drop (at + 2) s)
   unfolding read_element read_short
   short_here h set = rw (at_front_2 s at h, le-ltb _ _ set)
 
-  long_here : at + 2 < length s → get_or s at 0 < 128
+  pub long_here : at + 2 < length s → get_or s at 0 < 128
       → read_element (drop at s) ≡ taken (formed true (element_of (get_or s at 0) (word_of (get_or s (at + 1) 0) (get_or s (at + 2) 0)))) (drop (at + 3) s)
   unfolding read_element read_long
   long_here h clear = rw (at_front_3 s at h, lt-ltb _ _ clear)
 
-  long_lacks : at < length s → length s < at + 3 → get_or s at 0 < 128 → read_element (drop at s) ≡ refuse 16
+  pub long_lacks : at < length s → length s < at + 3 → get_or s at 0 < 128 → read_element (drop at s) ≡ refuse 16
   unfolding read_element
   long_lacks h short clear =
       let few : length (drop (at + 1) s) < 2 = simp length-drop (omega arith) in
       rw (front_at s at h, lt-ltb _ _ clear, long_cut (get_or s at 0) (drop (at + 1) s) few)
+
+  pub short_lacks : at < length s → length s < at + 2 → 128 ≤ get_or s at 0 → read_element (drop at s) ≡ refuse 15
+  unfolding read_element
+  short_lacks h short set =
+      let few : length (drop (at + 1) s) < 1 = simp length-drop (omega arith) in
+      rw (front_at s at h, le-ltb _ _ set, short_cut (get_or s at 0) (drop (at + 1) s) few)
 
 -- of fewer than two bytes no element is taken
 pub none_of_one : (l : List ℕ) (f : Formed) (r : List ℕ) → length l < 2 → read_element l ≡ taken f r → ⊥

@@ -141,6 +141,7 @@ impl<'a> Cursor<'a> {
         Ok((node_property_type, behind))
     }
 
+    #[tactic(auto, using(crate::proofs::Laws::front_at), unfolding(felica_format::specs::Read::read_count, felica_format::specs::Basic::refuse_if))]
     fn take_between(self, bounds: Bounds, reasons: CountReasons) -> Taken<'a, u8>
         ensures { Takes itself (read_count_for reasons bounds (rest self.entry)) (To (moved self.entry 1)) result }
     {
@@ -155,8 +156,8 @@ impl<'a> Cursor<'a> {
         Ok((count, Cursor { at, ..self }))
     }
 
-    // The count of a list of codes, within the bounds of a plain code's row. The row is a number: the bounds stand in one table of 25 rows, and a type for the rows would ask more of
-    // callers, who may give any number.
+    // The count of a list of codes, within the bounds that a plain code's row has.
+    // The row is a number: the bounds stand in one table of 25 rows, and a type for the rows would ask more of callers, who may give any number.
     pub fn take_count(self, row: usize, reasons: CountReasons) -> Taken<'a, u8>
         ensures { Takes itself (read_count_for reasons (bounds_at row) (rest self.entry)) (To (moved self.entry 1)) result }
     {
@@ -192,6 +193,7 @@ impl<'a> Cursor<'a> {
     }
 
     // Bit 7 set: one byte of block number follows. Bit 7 clear: two bytes. The answer tells which it was.
+    #[tactic(auto, using(crate::proofs::Few::short_here, crate::proofs::Few::short_lacks, crate::proofs::Few::long_here, crate::proofs::Few::long_lacks), unfolding(felica_format::specs::Read::read_element))]
     pub fn take_element(self) -> Taken<'a, FormedElement>
         ensures { Takes formed_is (read_element (rest self.entry)) (To (moved self.entry (element_size (get_or self.entry.payload.now self.entry.at 0)))) result }
     {

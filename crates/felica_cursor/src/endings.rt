@@ -204,7 +204,7 @@ impl<'a> Cursor<'a> {
         Ok((parameter, Cursor { at: at + 8, ..self }))
     }
 
-    // The package: all that is left. It is no `take_data`, since nothing is refused and nothing is read behind it.
+    // The package: all that is left. By a step as `take_data` it would carry a reason that never comes and a cursor that nobody uses.
     pub fn package(self) -> Part
         ensures { result ≡ part self.entry.at (length (rest self.entry)) }
     {
