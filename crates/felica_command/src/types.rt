@@ -51,8 +51,8 @@ impl ContainerProperty {
     }
 }
 
-// What a type byte names: 00 the first of two types, 01 the second. `to_byte` and `from_byte` are the Rust's names; `TryFrom<u8>` would have each type carry an
-// error type, and the parser, which has a reason of its own for each, would drop the error.
+// What a type byte names: 00 the first of two types, 01 the second. `to_byte` and `from_byte` are the Rust's names; `TryFrom<u8>` would add an
+// error type, which the parser would drop, since it has a reason of its own for each.
 fn type_named<T: Copy>(byte: u8, first: T, second: T) -> Option<T>
     ensures { result ≡ type_of first second byte }
 {
