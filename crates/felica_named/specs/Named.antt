@@ -5,9 +5,11 @@ use Rattle.felica_calls.specs.declared.fault.Fault.{Fault}
 use Rattle.felica_named.specs.Notes.{Noted}
 use Rattle.felica_named.specs.declared.notes.Named.{Named}
 
+-- the fields that a `Named` holds: contracts speak of it by this record
 abbrev pub noted_in : Named → Noted
 noted_in named = record { text = named.text.now; starts = named.starts }
 
+-- and that an answer holds
 abbrev pub answer_in : Result Named Fault → Result Noted Fault
 answer_in (Ok named) = Ok (noted_in named)
 answer_in (Err fault) = Err fault

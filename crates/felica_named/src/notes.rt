@@ -1,6 +1,6 @@
 // A walk along the fields. Each is noted by where its value begins, at the number of its name, or what is wrong with it is told.
-ghost use Rattle.std.specs.Prelude.{◌≡◌, ◌+◌, ◌<◌, ◌^◌, length, IfOk};
-ghost use Rattle.felica_named.specs.Notes.{noted, fields_noted, note, note_value, form_of, slot_of, field_at};
+ghost use Rattle.std.specs.Prelude.{◌≡◌, ◌+◌, ◌<◌, ◌^◌, length};
+ghost use Rattle.felica_named.specs.Notes.{noted, fields_noted, note, note_value, form_of, slot_of};
 ghost use Rattle.felica_named.specs.Named.{answer_in};
 
 use crate::form::Form;

@@ -1,6 +1,6 @@
 // Which fields the fixed fields of a command are read from, and whether a field is named that the command lacks.
 ghost use Rattle.std.specs.Prelude.{◌≡◌};
-ghost use Rattle.felica_named.specs.Handed.{is_at, sources_of, only_number, only_challenge, takes, strays, stray_of};
+ghost use Rattle.felica_named.specs.Handed.{sources_of, only_number, only_challenge, takes, strays, stray_of};
 ghost use Rattle.felica_named.specs.Named.{noted_in};
 
 use crate::names::Field;
@@ -8,7 +8,7 @@ use crate::notes::Named;
 use crate::values::{all_zero, value_at};
 use felica_format::constants;
 
-// The field that each fixed field of a command is read from, if any. Of 80, `parameter` stands behind `challenge`.
+// The field that each fixed field of a command is read from, if any. The challenge is read from two: of 80, the bytes of `parameter` stand behind those of `challenge`.
 #[derive(Clone, Copy, Debug, PartialEq, Eq)]
 pub(crate) struct Sources {
     pub(crate) selector: Option<Field>,
