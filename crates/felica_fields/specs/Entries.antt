@@ -49,11 +49,6 @@ abbrev pub entry_text : {T : Type 0} → (T → List ℕ) → List ℕ → Optio
 entry_text text s (Some found) = Some (text found.0, drop found.1 s)
 entry_text text s None = None
 
--- how the entries of a list are read, and the text of one
-pub record Entry (T : Type 0) : Type 0 where
-  pub read : List ℕ → TextRead
-  pub text : T → List ℕ
-
 abbrev pub if_read : {B : Type 0} → TextRead → (List ℕ → List ℕ → B) → B → B
 if_read (Some found) f other = f found.0 found.1
 if_read None f other = other

@@ -9,41 +9,34 @@ use Rattle.felica_fields.proofs.list.put_list.Goals as goal
 
 pub returns-then-list-eq0 : goal.returns-then-list-eq0
 unfolding parted
-returns-then-list-eq0 g c = rw (texts_none g.entry.read _ _ c.if-list-eq0.true) c.put.ensures
+returns-then-list-eq0 g c = rw (texts_none g.E.Entry.read _ _ c.if-list-eq0.true) c.put.ensures
 
 pub returns-in_default : goal.returns-in_default
 unfolding parted
 returns-in_default g c =
-    let reads = c.requires.1.1.1.1.1.0 in
-    let e = rw c.in_default.is at (reads _ _ _ c.entry_at.ensures) in
-    rw (texts_end g.entry.read _ c.args.list.count e) c.put-in_default.ensures
+    let e = rw c.in_default.is at c.entry_at.ensures in
+    rw (texts_end g.E.Entry.read _ c.args.list.count e) c.put-in_default.ensures
 
 pub returns-in_default-entry_at : goal.returns-in_default-entry_at
 unfolding parted
 returns-in_default-entry_at g c =
-    let reads = c.requires.1.1.1.1.1.0 in
-    let puts = c.requires.1.1.1.1.1.1 in
-    let none = rw c.in_default-entry_at.is at (reads _ _ _ c.entry_at-in-loop.ensures) in
-    let some = rw c.in-Some.is at (reads _ _ _ c.entry_at.ensures) in
-    rw (texts_next g.entry.read _ c.args.list.count (omega arith) some)
-    (puts_then (puts _ _ _ c.put_entry.ensures) (leads_end c.loop.invariant (ap (behind_commas (λ text. text)) (texts_end g.entry.read _ _ none))))
+    let none = rw c.in_default-entry_at.is at c.entry_at-in-loop.ensures in
+    let some = rw c.in-Some.is at c.entry_at.ensures in
+    rw (texts_next g.E.Entry.read _ c.args.list.count (omega arith) some)
+    (puts_then c.put-2.ensures (leads_end c.loop.invariant (ap (behind_commas (λ text. text)) (texts_end g.E.Entry.read _ _ none))))
 
 pub loop-preserved : goal.loop-preserved
 loop-preserved g c =
-    let reads = c.requires.1.1.1.1.1.0 in
-    let puts = c.requires.1.1.1.1.1.1 in
-    let some = rw c.in-Some-entry_at.is at (reads _ _ _ c.entry_at-in-loop.ensures) in
+    let some = rw c.in-Some-entry_at.is at c.entry_at-in-loop.ensures in
     let left : c.args.list.count - (c.loop.counter + 1) ≡ c.args.list.count - c.loop.counter - 1 = omega arith in
     rw left
     (leads_turn _ _ c.loop.invariant
-    (ap (behind_commas (λ text. text)) (texts_next g.entry.read _ _ (omega arith) some))
-    (puts_then c.put-in-loop.ensures (puts _ _ _ c.put_entry-in-loop.ensures)))
+    (ap (behind_commas (λ text. text)) (texts_next g.E.Entry.read _ _ (omega arith) some))
+    (puts_then c.put-in-loop.ensures c.put-in-loop-2.ensures))
 
 pub returns : goal.returns
 unfolding parted
 returns g c =
-    let reads = c.requires.1.1.1.1.1.0 in
-    let puts = c.requires.1.1.1.1.1.1 in
-    let some = rw c.in-Some.is at (reads _ _ _ c.entry_at.ensures) in
-    rw (texts_next g.entry.read _ c.args.list.count (omega arith) some)
-    (puts_then (puts _ _ _ c.put_entry.ensures) (leads_end c.loop.invariant (ap (behind_commas (λ text. text)) (texts_none g.entry.read _ _ (omega arith)))))
+    let some = rw c.in-Some.is at c.entry_at.ensures in
+    rw (texts_next g.E.Entry.read _ c.args.list.count (omega arith) some)
+    (puts_then c.put-2.ensures (leads_end c.loop.invariant (ap (behind_commas (λ text. text)) (texts_none g.E.Entry.read _ _ (omega arith)))))

@@ -9,5 +9,5 @@ use Rattle.felica_fields.proofs.list.put_list.Given as goal
 abbrev pub invariant-loop : goal.invariant-loop
 invariant-loop g l =
     Leads l.initial.out l.out
-    (behind_commas (λ text. text) (texts_of g.entry.read (l.end - l.counter) (drop l.place l.payload)))
-    (behind_commas (λ text. text) (texts_of g.entry.read (l.end - 1) (drop l.initial.place l.payload)))
+    (behind_commas (λ text. text) (texts_of g.E.Entry.read (l.end - l.counter) (drop l.place l.payload)))
+    (behind_commas (λ text. text) (texts_of g.E.Entry.read (l.end - 1) (drop l.initial.place l.payload)))

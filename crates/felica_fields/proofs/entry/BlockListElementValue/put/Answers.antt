@@ -1,7 +1,7 @@
--- `felica_fields::list::put_block` meets its contract: the number, the place and the mode.
+-- An element is put as its text: the number, the place and the mode.
 -- Assumes nothing.
 use Rattle.felica_put.proofs.Laws.{puts_then}
-use Rattle.felica_fields.proofs.list.put_block.Goals as goal
+use Rattle.felica_fields.proofs.entry.BlockListElementValue.put.Goals as goal
 
 pub returns : goal.returns
 returns c =

@@ -1,10 +1,10 @@
--- `felica_fields::entry::code_at` meets its contract.
+-- A code of a list is read as the definitions read it.
 -- Assumes nothing.
 use Rattle.std.proofs.Common.{◌≡◌, refl, ◌<◌, ◌∙◌, drop, length, length-drop, arith}
 use Rattle.std.proofs.lemmas.List.{drop-drop}
 use Rattle.felica_put.proofs.Laws.{take_rest}
 use Rattle.felica_fields.proofs.Entries.{code_cut, code_whole}
-use Rattle.felica_fields.proofs.entry.code_at.Goals as goal
+use Rattle.felica_fields.proofs.entry.U16Entry.entry_at.Goals as goal
 
 pub returns-in_err-rest : goal.returns-in_err-rest
 returns-in_err-rest c =
