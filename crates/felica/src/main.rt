@@ -27,6 +27,21 @@ const MAX_CALL_BYTES: usize = 16384;
 // come to less, and so do the five lists and what the writer writes, 16,384 bytes behind their count.
 const ANSWER_ROOM: usize = 33024;
 
+// The input: a lent buffer, and how many bytes at its front are held.
+#[derive(Drop)]
+struct Input<'a> {
+    room: &'a mut [u8],
+    held: usize,
+    ghost inside: { held ≤ length room.now },
+}
+
+// The answers that wait to be written.
+#[derive(Drop)]
+struct Answers<'a> {
+    out: Output<'a, u8>,
+    ghost within: { IsWithin out },
+}
+
 // An empty line is answered too, so that there is a line for each line.
 fn answer_call(line: &[u8], bytes: &mut [u8], out: &mut Output<u8>)
     ensures same_reference { out.new.room.ghost_name ≡ out.old.room.ghost_name }
@@ -61,86 +76,94 @@ fn answer_lines<W: Write>(
     writer: &mut W,
     input: &[u8],
     bytes: &mut [u8],
-    out: &mut Output<u8>,
+    answers: &mut Answers,
 ) -> io::Result<usize>
-    requires { IsWithin out.old }
-    ensures within { IsWithin out.new }
-    ensures rest { IfOk result (λ rest. rest ≤ length input.now) }
+    ensures { IfOk result (λ rest. rest ≤ length input.now) }
 {
     let mut rest = input;
     while let Some(end) = line_end(rest) {
-        make_room(writer, out, ANSWER_ROOM)?;
-        answer_line(&rest[..end], bytes, out);
+        make_room(writer, &mut answers.out, ANSWER_ROOM)?;
+        answer_line(&rest[..end], bytes, &mut answers.out);
         rest = &rest[end + 1..];
     }
     Ok(rest.len())
 }
 
-// Passes over the rest of a line, and answers how many bytes behind it are held. A proved loop has to end, and nothing says that the
-// input does: here and in `feed` the turns are counted.
-fn skip_line<R: Read>(reader: &mut R, input: &mut [u8]) -> usize
-    ensures { result ≤ length input.new }
-{
+// Passes over the rest of a line, so that what is held stands behind it. A proved loop has to end, and nothing says that the input does:
+// here and in `feed` the turns are counted.
+fn skip_line<R: Read>(reader: &mut R, input: &mut Input) {
+    input.held = 0;
+    let room = &mut *input.room;
     for _ in 0..u64::MAX {
-        let more = read_more(reader, input, 0).unwrap_or(0);
+        let more = read_more(reader, room, 0).unwrap_or(0);
         if more == 0 {
-            return 0;
+            return;
         }
-        if let Some(end) = line_end(&input[..more]) {
-            keep_rest(input, end + 1, more);
-            return more - (end + 1);
+        if let Some(end) = line_end(&room[..more]) {
+            keep_rest(room, end + 1, more);
+            input.held = more - (end + 1);
+            return;
         }
     }
-    0
 }
 
-// Answers the whole lines of what is held, moves the rest to the start, and says how long that is. A line that fills the buffer is too long.
+// Answers the whole lines of what is held, and moves the rest to the start. A line that fills the buffer is too long.
 fn answer_held<R: Read, W: Write>(
     reader: &mut R,
     writer: &mut W,
-    input: &mut [u8],
-    held: usize,
+    input: &mut Input,
     bytes: &mut [u8],
-    out: &mut Output<u8>,
-) -> io::Result<usize>
-    requires { (held ≤ length input.old) × IsWithin out.old }
-    ensures within { IsWithin out.new }
-    ensures rest { IfOk result (λ rest. rest ≤ length input.new) }
-{
-    let rest = answer_lines(writer, &input[..held], bytes, out)?;
-    if rest < input.len() {
-        keep_rest(input, held - rest, held);
-        return Ok(rest);
+    answers: &mut Answers,
+) -> io::Result<()> {
+    let held = input.held;
+    let room = &mut *input.room;
+    let rest = answer_lines(writer, &room[..held], bytes, answers)?;
+    if rest < room.len() {
+        keep_rest(room, held - rest, held);
+        input.held = rest;
+        return Ok(());
     }
-    make_room(writer, out, ANSWER_ROOM)?;
-    put_fault(out, Fault::LineTooLong);
-    out.put(b'\n');
-    Ok(skip_line(reader, input))
+    make_room(writer, &mut answers.out, ANSWER_ROOM)?;
+    put_fault(&mut answers.out, Fault::LineTooLong);
+    answers.out.put(b'\n');
+    skip_line(reader, input);
+    Ok(())
 }
 
-// `held` stands beside the lent array, since this loop is proved by how many bytes of it are held.
 // Reads the input to its end, and answers every line that ends in a line feed. What is held then is the last line, which has none. A read that fails is the end, too.
 fn feed<R: Read, W: Write>(
     reader: &mut R,
     writer: &mut W,
-    input: &mut [u8],
+    input: &mut Input,
     bytes: &mut [u8],
-    out: &mut Output<u8>,
-) -> io::Result<usize>
-    requires { IsWithin out.old }
-    ensures within { IsWithin out.new }
-    ensures rest { IfOk result (λ held. held ≤ length input.new) }
-{
-    let mut held = 0;
+    answers: &mut Answers,
+) -> io::Result<()> {
     for _ in 0..u64::MAX {
-        let more = read_more(reader, input, held).unwrap_or(held);
-        let rest = answer_held(reader, writer, input, more, bytes, out)?;
+        let held = input.held;
+        let more = read_more(reader, &mut *input.room, held).unwrap_or(held);
+        input.held = more;
+        answer_held(reader, writer, input, bytes, answers)?;
         if more == held {
-            return Ok(rest);
+            return Ok(());
         }
-        held = rest;
     }
-    Ok(held)
+    Ok(())
+}
+
+// Answers what is held as the last line, if there is one, and writes what waits.
+fn finish<W: Write>(
+    writer: &mut W,
+    input: &mut Input,
+    bytes: &mut [u8],
+    answers: &mut Answers,
+) -> io::Result<()> {
+    let held = input.held;
+    let room = &mut *input.room;
+    if held != 0 {
+        make_room(writer, &mut answers.out, ANSWER_ROOM)?;
+        answer_line(&room[..held], bytes, &mut answers.out);
+    }
+    writer.write_all(answers.out.filled())
 }
 
 fn run<R: Read, W: Write>(
@@ -150,13 +173,15 @@ fn run<R: Read, W: Write>(
     bytes: &mut [u8],
     out: &mut [u8],
 ) -> io::Result<()> {
-    let mut out = Output::new(out);
-    let held = feed(reader, writer, input, bytes, &mut out)?;
-    if held != 0 {
-        make_room(writer, &mut out, ANSWER_ROOM)?;
-        answer_line(&input[..held], bytes, &mut out);
-    }
-    writer.write_all(out.filled())
+    let mut input = Input {
+        room: input,
+        held: 0,
+    };
+    let mut answers = Answers {
+        out: Output::new(out),
+    };
+    feed(reader, writer, &mut input, bytes, &mut answers)?;
+    finish(writer, &mut input, bytes, &mut answers)
 }
 
 fn main(rt: HostRuntime) {

@@ -1,11 +1,10 @@
--- `felica::answer_lines` stays within the input and the output.
+-- `felica::answer_lines` stays within the input.
 -- Assumes nothing.
 use Rattle.std.proofs.Common.{◌≤◌, length}
-use Rattle.felica_stream.specs.Held.{IsWithin}
 use Rattle.felica.proofs.answer_lines.Given as goal
 
 abbrev pub invariant-loop-end : goal.invariant-loop-end
-invariant-loop-end g l = record { within : IsWithin l.out; rest : length l.rest ≤ length l.input }
+invariant-loop-end g l = length l.rest ≤ length l.input
 
 abbrev pub decreases-loop-end : goal.decreases-loop-end
 decreases-loop-end g l = length l.rest
