@@ -35,9 +35,9 @@ struct Input<'a> {
     ghost inside: { held ≤ length room.now },
 }
 
-// The answers that wait to be written.
+// The answers that wait to be written, which are within their room.
 #[derive(Drop)]
-struct Answers<'a> {
+struct Waiting<'a> {
     out: Output<'a, u8>,
     ghost within: { IsWithin out },
 }
@@ -64,6 +64,18 @@ fn answer_line(line: &[u8], bytes: &mut [u8], out: &mut Output<u8>)
     out.put(b'\n');
 }
 
+// The same, where room is made for it first.
+fn answer_next<W: Write>(
+    writer: &mut W,
+    line: &[u8],
+    bytes: &mut [u8],
+    waiting: &mut Waiting,
+) -> io::Result<()> {
+    make_room(writer, &mut waiting.out, ANSWER_ROOM)?;
+    answer_line(line, bytes, &mut waiting.out);
+    Ok(())
+}
+
 // Where the line feed of the first line stands, if it has one.
 fn line_end(text: &[u8]) -> Option<usize>
     ensures { IfSome result (λ end. end < length text.now) }
@@ -76,14 +88,13 @@ fn answer_lines<W: Write>(
     writer: &mut W,
     input: &[u8],
     bytes: &mut [u8],
-    answers: &mut Answers,
+    waiting: &mut Waiting,
 ) -> io::Result<usize>
     ensures { IfOk result (λ rest. rest ≤ length input.now) }
 {
     let mut rest = input;
     while let Some(end) = line_end(rest) {
-        make_room(writer, &mut answers.out, ANSWER_ROOM)?;
-        answer_line(&rest[..end], bytes, &mut answers.out);
+        answer_next(writer, &rest[..end], bytes, waiting)?;
         rest = &rest[end + 1..];
     }
     Ok(rest.len())
@@ -113,19 +124,19 @@ fn answer_held<R: Read, W: Write>(
     writer: &mut W,
     input: &mut Input,
     bytes: &mut [u8],
-    answers: &mut Answers,
+    waiting: &mut Waiting,
 ) -> io::Result<()> {
     let held = input.held;
     let room = &mut *input.room;
-    let rest = answer_lines(writer, &room[..held], bytes, answers)?;
+    let rest = answer_lines(writer, &room[..held], bytes, waiting)?;
     if rest < room.len() {
         keep_rest(room, held - rest, held);
         input.held = rest;
         return Ok(());
     }
-    make_room(writer, &mut answers.out, ANSWER_ROOM)?;
-    put_fault(&mut answers.out, Fault::LineTooLong);
-    answers.out.put(b'\n');
+    make_room(writer, &mut waiting.out, ANSWER_ROOM)?;
+    put_fault(&mut waiting.out, Fault::LineTooLong);
+    waiting.out.put(b'\n');
     skip_line(reader, input);
     Ok(())
 }
@@ -136,13 +147,13 @@ fn feed<R: Read, W: Write>(
     writer: &mut W,
     input: &mut Input,
     bytes: &mut [u8],
-    answers: &mut Answers,
+    waiting: &mut Waiting,
 ) -> io::Result<()> {
     for _ in 0..u64::MAX {
         let held = input.held;
         let more = read_more(reader, &mut *input.room, held).unwrap_or(held);
         input.held = more;
-        answer_held(reader, writer, input, bytes, answers)?;
+        answer_held(reader, writer, input, bytes, waiting)?;
         if more == held {
             return Ok(());
         }
@@ -155,15 +166,14 @@ fn finish<W: Write>(
     writer: &mut W,
     input: &mut Input,
     bytes: &mut [u8],
-    answers: &mut Answers,
+    waiting: &mut Waiting,
 ) -> io::Result<()> {
     let held = input.held;
     let room = &mut *input.room;
     if held != 0 {
-        make_room(writer, &mut answers.out, ANSWER_ROOM)?;
-        answer_line(&room[..held], bytes, &mut answers.out);
+        answer_next(writer, &room[..held], bytes, waiting)?;
     }
-    writer.write_all(answers.out.filled())
+    writer.write_all(waiting.out.filled())
 }
 
 fn run<R: Read, W: Write>(
@@ -177,11 +187,11 @@ fn run<R: Read, W: Write>(
         room: input,
         held: 0,
     };
-    let mut answers = Answers {
+    let mut waiting = Waiting {
         out: Output::new(out),
     };
-    feed(reader, writer, &mut input, bytes, &mut answers)?;
-    finish(writer, &mut input, bytes, &mut answers)
+    feed(reader, writer, &mut input, bytes, &mut waiting)?;
+    finish(writer, &mut input, bytes, &mut waiting)
 }
 
 fn main(rt: HostRuntime) {

@@ -1,4 +1,4 @@
--- `felica::answer_lines` stays within the input.
+-- `felica::answer_lines` stays within the input and the output.
 -- Assumes nothing.
 use Rattle.std.proofs.Common.{◌≤◌, length}
 use Rattle.felica.proofs.answer_lines.Given as goal
