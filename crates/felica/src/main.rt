@@ -27,6 +27,14 @@ const MAX_CALL_BYTES: usize = 16384;
 // come to less, and so do the five lists and what the writer writes, 16,384 bytes behind their count.
 const ANSWER_ROOM: usize = 33024;
 
+// The input: a lent buffer, and how many bytes at its front are held.
+#[derive(Drop)]
+struct Input<'a> {
+    room: &'a mut [u8],
+    held: usize,
+    ghost inside: { held ≤ length room.now },
+}
+
 // The answers that wait to be written, which are within their room.
 #[derive(Drop)]
 struct Waiting<'a> {
@@ -92,45 +100,45 @@ fn answer_lines<W: Write>(
     Ok(rest.len())
 }
 
-// Passes over the rest of a line, and answers how many bytes behind it are held. A proved loop has to end, and nothing says that the
-// input does: here and in `feed` the turns are counted.
-fn skip_line<R: Read>(reader: &mut R, input: &mut [u8]) -> usize
-    ensures { result ≤ length input.new }
-{
+// Passes over the rest of a line, so that what is held stands behind it. A proved loop has to end, and nothing says that the input does:
+// here and in `feed` the turns are counted.
+fn skip_line<R: Read>(reader: &mut R, input: &mut Input) {
+    input.held = 0;
+    let room = &mut *input.room;
     for _ in 0..u64::MAX {
-        let more = read_more(reader, input, 0).unwrap_or(0);
+        let more = read_more(reader, room, 0).unwrap_or(0);
         if more == 0 {
-            return 0;
+            return;
         }
-        if let Some(end) = line_end(&input[..more]) {
-            keep_rest(input, end + 1, more);
-            return more - (end + 1);
+        if let Some(end) = line_end(&room[..more]) {
+            keep_rest(room, end + 1, more);
+            input.held = more - (end + 1);
+            return;
         }
     }
-    0
 }
 
-// Answers the whole lines of what is held, moves the rest to the start, and says how long that is. A line that fills the buffer is too long.
+// Answers the whole lines of what is held, and moves the rest to the start. A line that fills the buffer is too long.
 fn answer_held<R: Read, W: Write>(
     reader: &mut R,
     writer: &mut W,
-    input: &mut [u8],
-    held: usize,
+    input: &mut Input,
     bytes: &mut [u8],
     waiting: &mut Waiting,
-) -> io::Result<usize>
-    requires { held ≤ length input.old }
-    ensures { IfOk result (λ rest. rest ≤ length input.new) }
-{
-    let rest = answer_lines(writer, &input[..held], bytes, waiting)?;
-    if rest < input.len() {
-        keep_rest(input, held - rest, held);
-        return Ok(rest);
+) -> io::Result<()> {
+    let held = input.held;
+    let room = &mut *input.room;
+    let rest = answer_lines(writer, &room[..held], bytes, waiting)?;
+    if rest < room.len() {
+        keep_rest(room, held - rest, held);
+        input.held = rest;
+        return Ok(());
     }
     make_room(writer, &mut waiting.out, ANSWER_ROOM)?;
     put_fault(&mut waiting.out, Fault::LineTooLong);
     waiting.out.put(b'\n');
-    Ok(skip_line(reader, input))
+    skip_line(reader, input);
+    Ok(())
 }
 
 // Reads the input to its end, and answers every line that ends in a line feed. What is held then is the last line, which has none. A read that fails is the end, too.
@@ -138,22 +146,35 @@ fn answer_held<R: Read, W: Write>(
 fn feed<R: Read, W: Write>(
     reader: &mut R,
     writer: &mut W,
-    input: &mut [u8],
+    input: &mut Input,
     bytes: &mut [u8],
     waiting: &mut Waiting,
-) -> io::Result<usize>
-    ensures { IfOk result (λ held. held ≤ length input.new) }
-{
-    let mut held = 0;
+) -> io::Result<()> {
     for _ in 0..u64::MAX {
-        let more = read_more(reader, input, held).unwrap_or(held);
-        let rest = answer_held(reader, writer, input, more, bytes, waiting)?;
+        let held = input.held;
+        let more = read_more(reader, &mut *input.room, held).unwrap_or(held);
+        input.held = more;
+        answer_held(reader, writer, input, bytes, waiting)?;
         if more == held {
-            return Ok(rest);
+            return Ok(());
         }
-        held = rest;
     }
-    Ok(held)
+    Ok(())
+}
+
+// Answers what is held as the last line, if there is one, and writes what waits.
+fn finish<W: Write>(
+    writer: &mut W,
+    input: &mut Input,
+    bytes: &mut [u8],
+    waiting: &mut Waiting,
+) -> io::Result<()> {
+    let held = input.held;
+    let room = &mut *input.room;
+    if held != 0 {
+        answer_next(writer, &room[..held], bytes, waiting)?;
+    }
+    writer.write_all(waiting.out.filled())
 }
 
 fn run<R: Read, W: Write>(
@@ -163,14 +184,15 @@ fn run<R: Read, W: Write>(
     bytes: &mut [u8],
     out: &mut [u8],
 ) -> io::Result<()> {
+    let mut input = Input {
+        room: input,
+        held: 0,
+    };
     let mut waiting = Waiting {
         out: Output::new(out),
     };
-    let held = feed(reader, writer, input, bytes, &mut waiting)?;
-    if held != 0 {
-        answer_next(writer, &input[..held], bytes, &mut waiting)?;
-    }
-    writer.write_all(waiting.out.filled())
+    feed(reader, writer, &mut input, bytes, &mut waiting)?;
+    finish(writer, &mut input, bytes, &mut waiting)
 }
 
 fn main(rt: HostRuntime) {

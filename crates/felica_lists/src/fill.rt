@@ -48,6 +48,7 @@ fn fill_codes(payload: &[u8], list: Part, out: &mut [u16])
     ensures { out.new ≡ front (codes_at payload.now list) out.old }
 {
     let codes = &payload[list.start..].as_chunks::<2>().0[..list.count];
+    // Stored by index: behind a loop over a `zip` with `iter_mut` (tried), nothing is known of what the buffer holds.
     for (i, code) in codes.iter().enumerate() {
         out[i] = u16::from_le_bytes(*code);
     }
@@ -61,7 +62,7 @@ fn fill_blocks(payload: &[u8], list: Part, numbers: &mut [u16], places: &mut [u8
         payload,
         at: list.start,
     };
-    // By index: tried as a `zip` of the three `iter_mut`, nothing is known behind the loop of what the buffers hold.
+    // By index too: tried as a `zip` of the three `iter_mut`, nothing is known behind the loop of what the buffers hold.
     for i in 0..list.count {
         // The parser has taken these elements, so that none is refused here.
         let Ok((taken, behind)) = cursor.take_element() else {

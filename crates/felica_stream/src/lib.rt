@@ -11,7 +11,7 @@ use std::io::{self, ErrorKind, Read, Write};
 
 // Reads once behind the `held` bytes at the front of `input`, which keep their values, and answers how many are held then; where there is no room behind them it reads
 // nothing. What is read, how much, and whether that fails, is the reader's.
-// `held` stands beside the lent array: the loops that feed from it are proved by how many bytes of the array they hold.
+// `held` stands beside the lent array, since any number may: a struct that says it lies inside would ask that of callers. The programs have such structs, `Input`.
 pub fn read_more<R: Read>(reader: &mut R, input: &mut [u8], held: usize) -> io::Result<usize>
     ensures bytes { IfOk result (λ more. Consumes (R.remaining reader.old) (R.remaining reader.new) (drop held (take more input.new))) }
     ensures end { IfOk result (λ more. more ≡ held → held < length input.old → IsAtEnd (R.remaining reader.new)) }
