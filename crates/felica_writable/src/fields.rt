@@ -75,7 +75,7 @@ fn choice_ok(ending: Option<Ending>, choice: u8) -> bool
     }
 }
 
-// Each case tests so many bytes as the compiler knows.
+// In each case the compiler knows how many bytes to test.
 fn challenge_ok(ending: Option<Ending>, challenge: [u8; 16]) -> bool
     ensures { result ≡ (are_bytes 16 challenge and same_list (drop (ranges_of (ending_meant ending)).filled challenge) (zeros (16 - (ranges_of (ending_meant ending)).filled))) }
 {
