@@ -1,12 +1,11 @@
 -- Tests, one behind the other, as one; the three lists of a block list as its elements.
 -- Assumes nothing.
 use Rattle.std.proofs.Common.{ℕ, suc, ◌-◌, ◌*◌, ◌/◌, ◌%◌, ◌<◌, ◌==◌, ◌&&◌, ◌≡◌, refl, sym, ap, ◌∙◌, Bool, true, false, cond, List, [], ◌∷◌, arith}
-use Rattle.std.proofs.Common.{length, get_or, drop, length-drop, min, nat_lt, fold}
+use Rattle.std.proofs.Common.{length, get_or, drop, length-drop, nat_lt, fold}
 use Rattle.std.specs.List.{list_all}
 use Rattle.std.proofs.Math.Dec.{ltb, leb, eqb}
 use Rattle.std.proofs.lemmas.Bool.{lt-ltb, eq-eqb, ne_eqb, eqb-true, eqb-false}
 use Rattle.std.proofs.lemmas.Bool.Decides.{nat_tests}
-use Rattle.std.proofs.lemmas.Grind.{common_steps}
 use Rattle.felica_format.specs.Basic.{◌and◌, all_below, zeros}
 use Rattle.felica_format.specs.Command.{Command, zip_elements, elements_of, end_fields_of}
 use Rattle.felica_format.specs.Layout.{Layout}
@@ -117,17 +116,13 @@ pub lists_test : (present : Bool) (ns ps ms : List ℕ) → length ps ≡ length
 unfolding same_length ◌and◌
 lists_test present ns ps ms p m small = rw (eq-eqb _ _ p, eq-eqb _ _ m) (elements_test present ns ps ms p m small)
 
--- past the end as at the end
-past : (from : ℕ) (s : List ℕ) (n : ℕ) → length s ≡ n → drop (min from n) s ≡ drop from s
-past from s n e = grind (arith, common_steps)
-
 -- n bytes that are zeros from a place on
 pub zeros_from : (n : ℕ) (s : List ℕ) (from : ℕ) → length s ≡ n → all_below 256 s ≡ true
-    → same_list (drop (min from n) s) (zeros (length (drop (min from n) s))) ≡ (are_bytes n s and same_list (drop from s) (zeros (n - from)))
+    → same_list (drop from s) (zeros (length (drop from s))) ≡ (are_bytes n s and same_list (drop from s) (zeros (n - from)))
 unfolding ◌and◌
 zeros_from n s from e small =
     let left : length (drop from s) ≡ n - from = omega (arith, length-drop from s) in
-    rw (eq-eqb _ _ e, small, past from s n e, left) refl
+    rw (eq-eqb _ _ e, small, left) refl
 
 -- the tests of a body, with those of the three lists of a block list in one
 pub tests : (l : Layout) (c : Command)

@@ -32,39 +32,20 @@ fn all_zero(bytes: &[u8]) -> bool
     bytes.iter().fold(true, |clear, &byte| clear & (byte == 0))
 }
 
-fn challenge_ok(challenge: [u8; 16], filled: usize) -> bool
-    ensures { result ≡ (are_bytes 16 challenge and same_list (drop filled challenge) (zeros (16 - filled))) }
-{
-    // Most commands have none of it: apart, so that the compiler knows how many bytes to test.
-    if filled == 0 {
-        return all_zero(&challenge);
-    }
-    all_zero(&challenge[filled.min(challenge.len())..])
-}
-
-// The greatest values of the fields that end a body, and how many bytes of the challenge it has. What it lacks is 0.
+// The greatest values of the fields that end a body. What it lacks is 0.
 #[derive(Clone, Copy, Debug, Default, PartialEq, Eq)]
 struct Greatest {
     number: u16,
     index: u16,
     option: u8,
-    challenge: usize,
 }
 
 fn greatest_of(ending: Option<Ending>) -> Greatest
-    ensures { ranges (suc result.number) (suc result.index) (suc result.option) (ranges_of (ending_meant ending)).choices result.challenge ≡ ranges_of (ending_meant ending) }
+    ensures { ranges (suc result.number) (suc result.index) (suc result.option) (ranges_of (ending_meant ending)).choices (ranges_of (ending_meant ending)).filled ≡ ranges_of (ending_meant ending) }
 {
     let none = Greatest::default();
     match ending {
-        None | Some(Ending::Reserved) => none,
-        Some(Ending::EightBytes) => Greatest {
-            challenge: 8,
-            ..none
-        },
-        Some(Ending::SixteenBytes) => Greatest {
-            challenge: 16,
-            ..none
-        },
+        None | Some(Ending::EightBytes | Ending::SixteenBytes | Ending::Reserved) => none,
         Some(Ending::Word) => Greatest {
             number: u16::MAX,
             ..none
@@ -94,6 +75,17 @@ fn choice_ok(ending: Option<Ending>, choice: u8) -> bool
     }
 }
 
+// In each case the compiler knows how many bytes to test.
+fn challenge_ok(ending: Option<Ending>, challenge: [u8; 16]) -> bool
+    ensures { result ≡ (are_bytes 16 challenge and same_list (drop (ranges_of (ending_meant ending)).filled challenge) (zeros (16 - (ranges_of (ending_meant ending)).filled))) }
+{
+    match ending {
+        Some(Ending::SixteenBytes) => true,
+        Some(Ending::EightBytes) => all_zero(&challenge[8..]),
+        _ => all_zero(&challenge),
+    }
+}
+
 pub(crate) fn end_fields_ok(ending: Option<Ending>, fixed: Fixed) -> bool
     ensures { result ≡ end_fields_ok (ranges_of (ending_meant ending)) (end_fields fixed.number fixed.index fixed.option fixed.choice fixed.challenge) }
 {
@@ -102,5 +94,5 @@ pub(crate) fn end_fields_ok(ending: Option<Ending>, fixed: Fixed) -> bool
         && fixed.index <= most.index
         && fixed.option <= most.option
         && choice_ok(ending, fixed.choice)
-        && challenge_ok(fixed.challenge, most.challenge)
+        && challenge_ok(ending, fixed.challenge)
 }

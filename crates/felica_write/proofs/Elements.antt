@@ -3,7 +3,7 @@
 use Rattle.std.proofs.Common.{ℕ, suc, ◌+◌, ◌*◌, ◌≤◌, ◌<◌, ◌≡◌, refl, sym, ap, ◌∙◌, Bool, true, false, cond, List, [], ◌∷◌, ◌++◌, arith}
 use Rattle.std.proofs.Common.{ltb, length, get_or, drop, length-append}
 use Rattle.std.specs.List.{flat_map}
-use Rattle.std.proofs.lemmas.Bool.{ltb-true, lt-ltb, le-ltb}
+use Rattle.std.proofs.lemmas.Bool.{ltb-true}
 use Rattle.std.proofs.lemmas.List.Sums.{sum_by-cons}
 use Rattle.felica_format.specs.Basic.{◌and◌, all_below, word_bytes}
 use Rattle.felica_format.specs.Command.{Element, zip_elements}
@@ -49,16 +49,7 @@ none_left (n ∷ ns) ps ms e = absurd (omega arith)
 pub left_end : {a b : Output ℕ} {all ns ps ms : List ℕ} → Left a b all ns ps ms → length ns ≡ 0 → Puts a b all
 left_end {ns = ns} {ps = ps} {ms = ms} l e = leads_end l.leads (none_left ns ps ms e)
 
--- the two forms of an element that is written as short as may be
-pub short_form : (n p m : ℕ) → n < 256 → element_bytes false (element n p m) ≡ short_bytes (element n p m)
-unfolding element_bytes ◌and◌
-short_form n p m h = rw (lt-ltb n 256 h)
-
-pub long_form : (n p m : ℕ) → 256 ≤ n → element_bytes false (element n p m) ≡ long_bytes (element n p m)
-unfolding element_bytes ◌and◌
-long_form n p m h = rw (le-ltb n 256 h)
-
--- their lengths
+-- the length of an element in its shortest form
 element_length : (e : Element) → length (element_bytes false e) ≡ cond (ltb e.number 256) 2 3
 unfolding element_bytes short_bytes long_bytes ◌and◌
 element_length e = go (ltb e.number 256)

@@ -96,6 +96,7 @@ fn put_elements(out: &mut Output<'_, u8>, present: bool, command: Handed<'_>)
 }
 
 // One element in its shortest form: bit 7 of its first byte says that one byte of block number follows.
+#[tactic(auto, using(felica_writable::proofs::Laws::known_tests), unfolding(felica_format::specs::Write::element_bytes, felica_format::specs::Write::short_bytes, felica_format::specs::Write::long_bytes, felica_put::specs::Put::put))]
 fn put_element(out: &mut Output<'_, u8>, number: u16, place: u8, mode: u8)
     requires place_small { place < 16 }
     requires mode_small { mode < 8 }

@@ -1,17 +1,32 @@
 -- `felica_writable::fields::challenge_ok` meets its contract.
 -- Assumes nothing.
-use Rattle.std.proofs.Common.{◌≡◌, ◌-◌, ◌∙◌, length, drop, take_all, length-drop, arith, rules}
+use Rattle.std.proofs.Common.{ℕ, ◌≡◌, sym, ap, ◌∙◌, List, length, drop, take_all, length-drop, arith, rules}
+use Rattle.std.proofs.Math.ListN.{drop_of_length-le}
+use Rattle.felica_format.specs.Basic.{zeros}
+use Rattle.felica_format.specs.Writable.{same_list, ranges_of}
+use Rattle.felica_layout.specs.Layout.{ending_meant}
 use Rattle.felica_writable.proofs.Laws.{all_small, zeros_from}
 use Rattle.felica_writable.proofs.fields.challenge_ok.Goals as goal
 
-pub returns-then-filled-eq0 : goal.returns-then-filled-eq0
-returns-then-filled-eq0 c =
-    let long : length c.args.challenge ≡ 16 = omega (arith, c.well_formed) in
-    rw c.if-filled-eq0.true (c.all_zero.ensures ∙ zeros_from 16 c.args.challenge 0 long (all_small 256 c.args.challenge (λ i. search rules)))
+pub returns-in-Some-SixteenBytes : goal.returns-in-Some-SixteenBytes
+returns-in-Some-SixteenBytes c =
+    let ch = c.args.challenge in
+    let filled : (ranges_of (ending_meant c.args.ending)).filled ≡ 16 = search rules in
+    let long : length ch ≡ 16 = omega (arith, c.well_formed) in
+    rw filled
+    (ap (λ (s : List ℕ). same_list s (zeros (length s))) (sym (drop_of_length-le ch {i = 16} (omega arith))) ∙ zeros_from 16 ch 16 long (all_small 256 ch (λ i. search rules)))
 
-pub returns : goal.returns
-returns c =
-    let long : length c.args.challenge ≡ 16 = omega (arith, c.well_formed) in
-    let rest = take_all (16 - c.min.result) (drop c.min.result c.args.challenge) (omega (arith, long, length-drop c.min.result c.args.challenge)) in
-    c.all_zero-2.ensures
-    ∙ rw (rest, c.min.ensures) (zeros_from 16 c.args.challenge c.args.filled long (all_small 256 c.args.challenge (λ i. search rules)))
+pub returns-in-Some-EightBytes : goal.returns-in-Some-EightBytes
+returns-in-Some-EightBytes c =
+    let ch = c.args.challenge in
+    let filled : (ranges_of (ending_meant c.args.ending)).filled ≡ 8 = search rules in
+    let long : length ch ≡ 16 = omega (arith, c.well_formed) in
+    let rest = take_all 8 (drop 8 ch) (omega (arith, length-drop 8 ch)) in
+    rw filled (c.all_zero.ensures ∙ rw rest (zeros_from 16 ch 8 long (all_small 256 ch (λ i. search rules))))
+
+pub returns-in_default : goal.returns-in_default
+returns-in_default c =
+    let ch = c.args.challenge in
+    let filled : (ranges_of (ending_meant c.args.ending)).filled ≡ 0 = search rules in
+    let long : length ch ≡ 16 = omega (arith, c.well_formed) in
+    rw filled (c.all_zero-in_default.ensures ∙ zeros_from 16 ch 0 long (all_small 256 ch (λ i. search rules)))
