@@ -142,7 +142,6 @@ fn answer_held<R: Read, W: Write>(
 }
 
 // Reads the input to its end, and answers every line that ends in a line feed. What is held then is the last line, which has none. A read that fails is the end, too.
-// `held` stands beside the lent array, since this loop is proved by how many bytes of it are held.
 fn feed<R: Read, W: Write>(
     reader: &mut R,
     writer: &mut W,

@@ -74,17 +74,6 @@ zero_drop (suc n) at i s = rw (get_or-drop, zero_drop n at (suc i) s, add-suc)
 pub word_drop : (s : List ℕ) (at i : ℕ) → word_at (drop at s) i ≡ word_at s (at + i)
 word_drop s at i = simp (get_or-drop, add-suc)
 
--- the codes at a place: one, and those behind it
-pub words_next : (s : List ℕ) (at n k : ℕ) → n ≡ suc k → words_of n (drop at s) ≡ word_of (get_or s at 0) (get_or s (at + 1) 0) ∷ words_of k (drop (at + 2) s)
-unfolding words_of
-words_next s at n k e =
-    let here : at + 0 ≡ at = omega arith in
-    rw (e, word_drop s at 0, here, add-one, drop-drop)
-
-pub no_words : (n : ℕ) (l : List ℕ) → n ≡ 0 → words_of n l ≡ []
-unfolding words_of
-no_words n l e = rw e
-
 -- a step that hands on a refusal
 pub refused : {T A : Type 0} {meant : T → A} {step : Step A} {P : T → Cursor → Type 0} (why : Reason) (r : Result (T × Cursor) Reason)
     → IsErr r × IsErrAnd r (λ y. y ≡ why) → step ≡ refuse (number_of why) → Takes meant step P r
