@@ -66,14 +66,12 @@ fn put_codes(out: &mut Output<'_, u8>, codes: Option<Bounds>, list: &[u16])
     }
 }
 
-// The low byte first. One by one, since a copy of two bytes takes twice as long.
+// The low byte first.
 #[tactic(auto, unfolding(felica_put::specs::Put::put))]
 fn put_word(out: &mut Output<'_, u8>, word: u16)
     ensures { Puts out.old out.new (word_bytes word) }
 {
-    let [low, high] = word.to_le_bytes();
-    out.put(low);
-    out.put(high);
+    out.put_all(&word.to_le_bytes());
 }
 
 #[tactic(auto, unfolding(felica_format::specs::Write::elements_bytes, felica_put::specs::Put::put))]
@@ -104,8 +102,7 @@ fn put_element(out: &mut Output<'_, u8>, number: u16, place: u8, mode: u8)
 {
     let head = 16 * mode + place;
     if number < LEAST_LONG {
-        out.put(128 + head);
-        out.put(number as u8);
+        out.put_all(&[128 + head, number as u8]);
     } else {
         out.put(head);
         put_word(out, number);
