@@ -24,5 +24,5 @@ fn put_command(out: &mut Output<u8>, payload: &[u8], parsed: Parsed)
 {
     out.put_all(b"OK ");
     put_hex_byte(out, parsed.command.command_code());
-    put_fields(out, payload, parsed.command, parsed.idm, parsed.challenge);
+    put_fields(out, payload, parsed);
 }

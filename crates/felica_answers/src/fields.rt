@@ -5,26 +5,21 @@ ghost use Rattle.felica_put.specs.Output.{Puts};
 ghost use Rattle.felica_fields.specs.Field.{byte_field, word_field, first_field, second_field, blocks_field, data_field, issue_fields};
 ghost use Rattle.felica_answers.specs.Answer.{row_of, row_text, idm_text};
 
-use felica_command::command::{FelicaStandardCommand as Command, Part};
+use felica_command::command::{FelicaStandardCommand as Command, Parsed, Part};
 use felica_command::types::{NodePropertyType, SetParameterEncryptionType, SetParameterPacketType};
 use felica_fields::field::{bytes_of, put_field};
 use felica_fields::list::{Blocks, Codes};
 use felica_put::Output;
 
 // Five matches, each of which gives a column of `row_of`: one match over the commands has 22 arms, past 40 lines, and puts the IDm in 14 of them, the code list in 7.
-pub(crate) fn put_fields(
-    out: &mut Output<u8>,
-    payload: &[u8],
-    command: Command,
-    idm: [u8; 8],
-    challenge: [u8; 16],
-)
-    ensures { Puts out.old out.new (row_text idm (row_of payload.now challenge command)) }
+pub(crate) fn put_fields(out: &mut Output<u8>, payload: &[u8], parsed: Parsed)
+    ensures { Puts out.old out.new (row_text parsed.idm (row_of payload.now parsed.challenge parsed.command)) }
 {
-    put_idm_of(out, command, idm);
+    let command = parsed.command;
+    put_idm_of(out, command, parsed.idm);
     put_codes_of(out, payload, command);
     put_blocks_of(out, payload, command);
-    put_fixed_of(out, command, challenge);
+    put_fixed_of(out, command, parsed.challenge);
     put_package_of(out, payload, command);
 }
 
@@ -157,7 +152,8 @@ fn put_package_of(out: &mut Output<u8>, payload: &[u8], command: Command)
     }
 }
 
-// The code list, or the first of two.
+// The code list, or the first of two. Here and below a part stands beside the payload that it counts from: a command names several parts of one payload, and `Codes` and
+// `Blocks` join the two only where one is put.
 fn put_first(out: &mut Output<u8>, payload: &[u8], list: Part)
     ensures { Puts out.old out.new (first_field payload.now list) }
 {

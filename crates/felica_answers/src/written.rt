@@ -20,6 +20,7 @@ pub fn put_written(out: &mut Output<u8>, written: Result<usize, Refusal>, room: 
     }
 }
 
+// The count beside the bytes: a caller may tell more than the buffer holds.
 fn put_count_and_bytes(out: &mut Output<u8>, count: usize, bytes: &[u8])
     ensures { Puts out.old out.new (bytes_line count bytes.now) }
 {

@@ -12,7 +12,8 @@ use felica_format::constants as codes;
 
 const NONE: Part = Part { start: 0, count: 0 };
 
-// The memory that C lends for a command. Each `put_*` writes all of it; what it leaves in `fields` is `exit.0`, in `parts` `exit.1.0`.
+// The memory that C lends for a command; each `put_*` writes all of it. Contracts number the fields: `exit.0` is what `fields` points to at the end, `exit.1.0` the same of
+// `parts`.
 #[derive(Drop)]
 struct FieldsAndParts<'a> {
     fields: &'a mut [u16; 5],

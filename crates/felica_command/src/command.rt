@@ -10,7 +10,7 @@ use felica_format::constants as codes;
 use felica_format::error::Reason;
 
 // A list, the data or the package, named as a part of the payload: the place of its first byte, counted from the payload's first, and
-// how many entries it has (bytes, of data and package).
+// how many entries it has (bytes, of data and package). Numbers and no slice: C gets them as such, and a slice has an address, which the readings could not name.
 #[derive(Clone, Copy, Debug, Default, PartialEq, Eq)]
 pub struct Part {
     pub start: usize,

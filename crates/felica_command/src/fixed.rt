@@ -1,4 +1,5 @@
-// The fixed fields of a command, as the writer takes them. Those that the command lacks are zero.
+// The fixed fields of a command, as the writer takes them. Those that the command lacks are zero, and no `Option`s: C hands in numbers (include/felica.h), and the writer
+// refuses any other number there.
 #[derive(Clone, Copy, Debug, Default, PartialEq, Eq)]
 pub struct Fixed {
     // Every plain command but 00, 2E and 70.

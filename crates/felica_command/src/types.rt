@@ -29,6 +29,7 @@ pub enum ContainerProperty {
     Unknown(u16),
 }
 
+// `index` and `from_index` are the Rust's names.
 impl ContainerProperty {
     pub fn index(self) -> u16
         ensures { result ≡ property_index self }
@@ -51,8 +52,8 @@ impl ContainerProperty {
     }
 }
 
-// What a type byte names: 00 the first of two types, 01 the second. `to_byte` and `from_byte` are the Rust's names; `TryFrom<u8>` would add an
-// error type, which the parser would drop, since it has a reason of its own for each.
+// What a type byte names: 00 the first of two types, 01 the second. `to_byte` and `from_byte` are the Rust's names, which the port keeps: a `TryFrom<u8>` beside
+// them would say the same a second time.
 fn type_named<T: Copy>(byte: u8, first: T, second: T) -> Option<T>
     ensures { result ≡ type_of first second byte }
 {

@@ -141,6 +141,7 @@ impl<'a> Cursor<'a> {
         Ok((node_property_type, behind))
     }
 
+    // The byte is not that of `take_operation_parameter`, which has another reason for its lack: a step for both would be one more contract, for one comparison.
     #[tactic(auto, using(crate::proofs::Laws::front_at), unfolding(felica_format::specs::Read::read_count, felica_format::specs::Basic::refuse_if))]
     fn take_between(self, bounds: Bounds, reasons: CountReasons) -> Taken<'a, u8>
         ensures { Takes itself (read_count_for reasons bounds (rest self.entry)) (To (moved self.entry 1)) result }
@@ -277,7 +278,8 @@ impl<'a> Cursor<'a> {
         }
     }
 
-    // take_block_list, with the count in front of it. Inlined by name: its answer is stored and loaded in seven words otherwise, which takes half as long as the walk.
+    // take_block_list, with the count in front of it. Inlined, as is `take_few`: else its answer of seven words is stored and loaded again, half as long as
+    // the walk itself.
     #[inline(always)]
     pub fn take_block_list(self, reasons: CountReasons) -> Taken<'a, Blocks>
         ensures { Takes (elements_in self.entry.payload.now) (read_elements_for reasons (rest self.entry)) (ElementsFrom (moved self.entry 1)) result }

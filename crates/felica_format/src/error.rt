@@ -34,7 +34,7 @@ pub enum Reason {
 }
 
 impl Reason {
-    // The table's word. A `From<Reason> for u8` would state this equation once more (`from_gives`), under a name that says less.
+    // The table's word. A method and no `From<Reason> for u8`: `u8::from(reason)` would not say that it is the number of the table.
     pub fn number(self) -> u8
         ensures { result ≡ number_of self }
     {

@@ -10,7 +10,8 @@ use felica_command::lists::Lists;
 use felica_put::Output;
 use felica_text::put::{put_decimal, put_hex_byte};
 
-// The codes are those of two lists of the payload, in field order.
+// The codes are those of two lists of the payload, in field order. That a list lies inside the payload is asked by three functions, and no type says it: a `Part` is public
+// and may be any two numbers.
 pub(crate) fn put_accepted(out: &mut Output<u8>, code: u8, payload: &[u8], lists: Lists, long: u8)
     requires { CodesInside payload.now lists.first_codes × CodesInside payload.now lists.second_codes }
     ensures { Puts out.old out.new (accepted_text code (codes_at payload.now lists.first_codes ++ codes_at payload.now lists.second_codes) lists.block_list.count long) }

@@ -5,7 +5,8 @@ ghost use Rattle.std.specs.Prelude.{◌≡◌, ◌+◌, ◌≤◌, length, [], �
 ghost use Rattle.felica_put.specs.Put.{buffer};
 ghost use Rattle.felica_put.specs.Output.{Puts, held};
 
-// A lent buffer, and how many of its places are filled, from the front on.
+// A lent buffer, and how many of its places are filled, from the front on. No ghost field says that these are within the room: both fields are public, and it would ask
+// that of whoever makes one.
 #[derive(Drop)]
 pub struct Output<'a, T> {
     pub room: &'a mut [T],
@@ -31,11 +32,11 @@ impl<'a, T: Copy> Output<'a, T> {
         }
     }
 
-    // Where all find room the compiler may know how many they are, and then copies them without a call.
+    // All items, or those that find room. Two calls of `copy`, since of all items the compiler may know the number, and then stores them without a call of `memcpy`.
     pub fn put_all(&mut self, items: &[T])
         ensures { Puts self.old self.new items.now }
     {
-        if items.is_empty() || self.room.len() <= self.len {
+        if self.room.len() <= self.len {
             return;
         }
         let left = self.room.len() - self.len;

@@ -7,7 +7,7 @@ use felica_command::command::{FelicaStandardCommand, Parsed};
 use felica_cursor::cursor::{Cursor, FIRST_COUNT};
 use felica_format::error::Reason;
 
-// Read and Read v2: bytes behind the block list are ignored.
+// Read and Read v2: bytes behind the block list are ignored. The code stands beside the cursor, as in felica_parse/src/plain.rt.
 pub(crate) fn parse_read(start: Cursor, command_code: u8) -> Result<Parsed, Reason>
     requires { ReadCode command_code }
     ensures { BodyRead start.entry command_code result }

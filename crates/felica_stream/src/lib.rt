@@ -11,7 +11,8 @@ use std::io::{self, ErrorKind, Read, Write};
 
 // Reads once behind the `held` bytes at the front of `input`, which keep their values, and answers how many are held then; where there is no room behind them it reads
 // nothing. What is read, how much, and whether that fails, is the reader's.
-// `held` stands beside the lent array, since any number may: a struct that says it lies inside would ask that of callers. The programs have such structs, `Input`.
+// `held` stands beside the lent array, since it may be any number: a struct whose ghost field says that it lies inside would ask that of callers. Each program has such a
+// struct, `Input`.
 pub fn read_more<R: Read>(reader: &mut R, input: &mut [u8], held: usize) -> io::Result<usize>
     ensures bytes { IfOk result (λ more. Consumes (R.remaining reader.old) (R.remaining reader.new) (drop held (take more input.new))) }
     ensures end { IfOk result (λ more. more ≡ held → held < length input.old → IsAtEnd (R.remaining reader.new)) }
@@ -37,7 +38,7 @@ pub fn keep_rest(input: &mut [u8], from: usize, end: usize)
 }
 
 // Writes the first `waiting` bytes of `out` where less than `room` is left behind them, and answers how many of them wait then. Whether a write fails is the writer's;
-// bytes that are not there cannot be written.
+// bytes that are not there cannot be written. `waiting` stands beside `out` as `held` does above: past the end it is answered by an error.
 pub fn write_waiting<W: Write>(
     writer: &mut W,
     out: &[u8],
