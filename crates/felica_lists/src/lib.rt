@@ -57,8 +57,9 @@ fn list_parsed(
     ensures given { given result (held out.new) ≡ give payload.now parsed (held out.old) }
 {
     let parsed = parsed?;
-    match fill(payload, parsed.command.lists(), out) {
-        Ok(()) => Ok(parsed),
-        Err(reason) => Err(Refusal::of_command(reason, parsed.command.command_code())),
-    }
+    fill(payload, parsed.command.lists(), out).map_err(|reason| Refusal::of_command(
+        reason,
+        parsed.command.command_code(),
+    ))?;
+    Ok(parsed)
 }
