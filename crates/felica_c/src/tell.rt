@@ -39,6 +39,7 @@ pub fn tell(
 }
 
 // A refusal of the writer.
+// Not a `From`: C takes a refusal as a number and 0, and `unwritten` says that nothing is written.
 pub fn unwritten(why: Refusal) -> FelicaWritten
     ensures { result ≡ unwritten_by why }
 {

@@ -1,14 +1,21 @@
 -- Entries of a part, one by one, and as entries of the list.
 -- Assumes nothing.
-use Rattle.std.proofs.Common.{ℕ, zero, suc, ◌+◌, ◌*◌, ◌≤◌, ◌<◌, arith, ◌≡◌, refl, sym, ap, ◌∙◌, List, [], ◌∷◌, Some, None, length, get_or, drop, lt-ltb, le-ltb, le-leb}
+use Rattle.std.proofs.Common.{ℕ, zero, suc, ◌+◌, ◌*◌, ◌≤◌, ◌<◌, arith, ◌≡◌, refl, sym, ap, ◌∙◌, List, [], ◌∷◌, Some, None, length, get_or, drop, Result, Ok, Err, lt-ltb, le-ltb, le-leb}
 use Rattle.std.proofs.lemmas.Bool.{lt-leb}
+use Rattle.std.proofs.lemmas.Option.{none-some, same_Some}
+use Rattle.std.specs.Result.{result_ok}
 use Rattle.felica_format.specs.Basic.{◌and◌, word_at, Step, taken, refuse, bind}
 use Rattle.felica_format.specs.Command.{Formed}
 use Rattle.felica_format.specs.Read.{words_of, read_element, read_each}
+use Rattle.felica_format.specs.declared.error.Reason.{Reason}
 use Rattle.felica_format.proofs.Steps.{bind_taken, taken_value}
 use Rattle.felica_command.specs.Meaning.{value_or}
 use Rattle.felica_command.specs.declared.command.Part.{Part}
 use Rattle.felica_entries.specs.Entries.{code_entry, value_of, element_behind, element_entry, CodeOfList, ElementOfList}
+use Rattle.felica_cursor.specs.Steps.{formed_is}
+use Rattle.felica_cursor.specs.Taken.{rest, as_step}
+use Rattle.felica_cursor.specs.declared.cursor.Cursor.{Cursor}
+use Rattle.felica_cursor.specs.declared.cursor.FormedElement.{FormedElement}
 use Rattle.felica_cursor.proofs.Laws.{word_drop}
 
 -- where there is no entry, and where there is
@@ -46,9 +53,23 @@ pub behind_more : (k n : ℕ) (l : List ℕ) (e : Formed) (r : List ℕ) → k �
 unfolding read_each bind
 behind_more k n l e r p q = rw (p, q) (past e (read_each n r))
 
-pub behind_refused : (k n : ℕ) (l : List ℕ) (g : ℕ) → k ≡ suc n → read_element l ≡ refuse g → element_behind k l ≡ refuse g
+pub behind_refused : (k n : ℕ) (l : List ℕ) → k ≡ suc n → value_of (read_element l) ≡ None → value_of (element_behind k l) ≡ None
 unfolding read_each bind
-behind_refused k n l g p q = rw (p, q)
+behind_refused k n l p q = rw p (stop (read_element l) q)
+  where
+    stop : (x : Step Formed) → value_of x ≡ None → value_of (bind (bind x λ e r. bind (read_each n r) λ es t. taken (e ∷ es) t) λ before rest. read_element rest) ≡ None
+    stop (taken e r) none = absurd (none-some e (sym none))
+    stop (refuse g) none = refl
+
+-- what a step's answer has, and lacks
+pub ok_taken : (answer : Result (FormedElement × Cursor) Reason) (e : FormedElement) (behind : Cursor) → result_ok answer ≡ Some (e, behind)
+    → as_step formed_is answer ≡ taken (formed_is e) (rest behind)
+ok_taken (Ok p) e behind is = rw (same_Some p (e, behind) is) refl
+ok_taken (Err why) e behind is = absurd (none-some (e, behind) is)
+
+pub ok_refused : (answer : Result (FormedElement × Cursor) Reason) → result_ok answer ≡ None → value_of (as_step formed_is answer) ≡ None
+ok_refused (Ok p) is = absurd (none-some p (sym is))
+ok_refused (Err why) is = refl
 
 -- the codes of a list
 codes_get : (n : ℕ) (l : List ℕ) (i : ℕ) → i < n → get_or (words_of n l) i 0 ≡ word_at l (2 * i)

@@ -45,13 +45,9 @@ pub fn block_at(payload: &[u8], list: Part, i: usize) -> Option<FormedElement>
         at: list.start,
     };
     for _element in 0..i {
-        let Ok((_, behind)) = cursor.take_element() else {
-            return None;
-        };
+        let (_, behind) = cursor.take_element().ok()?;
         cursor = behind;
     }
-    let Ok((element, _)) = cursor.take_element() else {
-        return None;
-    };
+    let (element, _) = cursor.take_element().ok()?;
     Some(element)
 }

@@ -38,10 +38,8 @@ impl Entry for BlockListElement {
     ghost read = { λ s. taken_text formed_text (read_element s) };
 
     fn entry_at(payload: &[u8], at: usize) -> Option<(BlockListElement, usize)> {
-        match (Cursor { payload, at }).take_element() {
-            Ok((taken, behind)) => Some((taken.element, behind.at)),
-            Err(_) => None,
-        }
+        let (taken, behind) = (Cursor { payload, at }).take_element().ok()?;
+        Some((taken.element, behind.at))
     }
 }
 

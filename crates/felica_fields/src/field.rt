@@ -9,6 +9,7 @@ use felica_put::Output;
 use felica_text::put::{put_hex, put_hex_byte, put_hex_word, put_nibbles, put_words};
 
 // A value that a field may have, and the text of it.
+// Not `Display`, for the reason that felica_text/src/put.rt has.
 pub trait Value {
     ghost text: { Self → List ℕ };
 

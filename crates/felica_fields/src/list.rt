@@ -23,6 +23,7 @@ impl Value for Codes<'_> {
 }
 
 // The elements of a block list, in the same way.
+// Not one `List<E>`: it would carry a marker for a type that no field has, and make `Entry` public.
 #[derive(Clone, Copy, Debug, PartialEq, Eq)]
 pub struct Blocks<'a>(pub &'a [u8], pub Part);
 
@@ -42,18 +43,17 @@ fn put_list<E: Entry>(out: &mut Output<u8>, payload: &[u8], list: Part)
         out.put(b'-');
         return;
     }
-    let Some(first) = E::entry_at(payload, list.start) else {
+    let Some((first, mut place)) = E::entry_at(payload, list.start) else {
         out.put(b'-');
         return;
     };
-    first.0.put(out);
-    let mut place = first.1;
+    first.put(out);
     for _ in 1..list.count {
-        let Some(next) = E::entry_at(payload, place) else {
+        let Some((next, behind)) = E::entry_at(payload, place) else {
             return;
         };
         out.put(b',');
-        next.0.put(out);
-        place = next.1;
+        next.put(out);
+        place = behind;
     }
 }

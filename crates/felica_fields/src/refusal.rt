@@ -6,6 +6,7 @@ use felica_command::command::Refusal;
 use felica_put::Output;
 use felica_text::put::{put_decimal, put_hex_byte};
 
+// Not `Display`, for the reason that felica_text/src/put.rt has.
 pub fn put_refusal(out: &mut Output<u8>, refusal: Refusal)
     ensures { Puts out.old out.new (refusal_text refusal) }
 {

@@ -60,6 +60,7 @@ pub struct Layout {
 }
 
 // The class of a code, and its layout; an unknown code has no bytes.
+// No `Option<Row>`: `Class::Unknown`, which the class table needs, would still be an arm of each match, one that never comes.
 #[derive(Clone, Copy, Debug, PartialEq, Eq)]
 pub struct Row {
     pub class: Class,

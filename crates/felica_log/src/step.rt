@@ -21,6 +21,7 @@ pub fn list_records(piece: &[u8], out: &mut Output<u8>, totals: &mut Totals) -> 
     ensures same_reference { out.new.room.ghost_name ≡ out.old.room.ghost_name }
     ensures reached { reached (held out.new) totals.new result.used result.stop ≡ step (held out.old) totals.old piece.now }
 {
+    // By its index, which is part of the answer: a record says its own length, and no iterator of std walks by that.
     let mut used = 0;
     loop {
         let rest = &piece[used..];

@@ -33,6 +33,7 @@ fn all_zero(bytes: &[u8]) -> bool
 }
 
 // The greatest values of the fields that end a body. What it lacks is 0.
+// Types are numbers here, as C hands them in, and a greatest value tests all of them alike; `from_byte` would be a case for each ending.
 #[derive(Clone, Copy, Debug, Default, PartialEq, Eq)]
 struct Greatest {
     number: u16,

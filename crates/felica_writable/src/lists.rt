@@ -20,7 +20,7 @@ pub(crate) fn codes_ok(codes: Option<Bounds>, list: &[u16]) -> bool
 fn is_between(least: u8, count: usize, greatest: u8) -> bool
     ensures { result ≡ (leb least count and leb count greatest) }
 {
-    usize::from(least) <= count && count <= usize::from(greatest)
+    (usize::from(least)..=usize::from(greatest)).contains(&count)
 }
 
 // The three lists of a block list: of one length, with places below 16 and modes below 8.

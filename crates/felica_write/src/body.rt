@@ -104,8 +104,8 @@ fn put_element(out: &mut Output<'_, u8>, number: u16, place: u8, mode: u8)
     if number < LEAST_LONG {
         out.put_all(&[128 + head, number as u8]);
     } else {
-        out.put(head);
-        put_word(out, number);
+        let [low, high] = number.to_le_bytes();
+        out.put_all(&[head, low, high]);
     }
 }
 

@@ -55,10 +55,7 @@ pub(crate) fn put_head(out: &mut Output<'_, u8>, class: Class, code: u8, size: u
     ensures { Puts out.old out.new (head_bytes class code size) }
 {
     match class {
-        Class::Plain => {
-            out.put((HEAD_LEN + size) as u8);
-            out.put(code);
-        }
+        Class::Plain => out.put_all(&[(HEAD_LEN + size) as u8, code]),
         Class::Secure | Class::Unknown => {}
     }
 }

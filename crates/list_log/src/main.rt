@@ -42,12 +42,11 @@ fn list_held<W: Write>(writer: &mut W, held: &[u8], listing: &mut Listing) -> io
     ensures listed { IfOk result (λ used. (used ≤ length held.now) × AllListed (W.contents writer.old) listing.old.totals (put_in listing.old.out) held.now (W.contents writer.new) listing.new.totals (put_in listing.new.out) used) }
     ensures short { IfOk result (λ used. listing.new.totals.records < max_records → length held.now < used + 256) }
 {
+    // `used` is what is answered; how far each turn comes is known only behind it.
     let mut used = 0;
     loop {
         make_room(writer, &mut listing.out, LINE_ROOM)?;
-        let mut totals = listing.totals;
-        let progress = list_records(&held[used..], &mut listing.out, &mut totals);
-        listing.totals = totals;
+        let progress = list_records(&held[used..], &mut listing.out, &mut listing.totals);
         used += progress.used;
         if !progress.stop.lacks_room() {
             return Ok(used);

@@ -6,25 +6,25 @@ use Rattle.felica_put.proofs.Laws.{take_rest}
 use Rattle.list_log.proofs.Held.{line_room_made, line_fits, room_after, inside_after, sound_after, none_after, less_left, some_used, listed_step, listed_room, listed_start}
 use Rattle.list_log.proofs.list_held.Goals as goal
 
-pub loop-totals-init : goal.loop-totals-init
-loop-totals-init g c = record { listed = listed_start _ c.args.listing.now.totals (held c.args.listing.now.out) c.args.held.now; inside = omega arith }
+pub loop-listing-init : goal.loop-listing-init
+loop-listing-init g c = record { listed = listed_start _ c.args.listing.now.totals (held c.args.listing.now.out) c.args.held.now; inside = omega arith }
 
-pub invariant_of-listing-in-loop-totals : goal.invariant_of-listing-in-loop-totals
-invariant_of-listing-in-loop-totals g c =
+pub invariant_of-listing-in-loop-listing : goal.invariant_of-listing-in-loop-listing
+invariant_of-listing-in-loop-listing g c =
     let e = c.list_records-progress.ensures.reached in
     record {
-      room = room_after _ _ _ e refl refl (line_room_made c.in_ok-make_room.ensures.out c.loop-totals.listing.room);
-      sound = sound_after _ _ _ e c.loop-totals.listing.sound;
+      room = room_after _ _ _ e refl refl (line_room_made c.in_ok-make_room.ensures.out c.loop-listing.listing.room);
+      sound = sound_after _ _ _ e c.loop-listing.listing.sound;
     }
 
 pub overflow_add-used : goal.overflow_add-used
 overflow_add-used g c =
-    let loop = c.loop-totals in
+    let loop = c.loop-listing in
     omega (arith, inside_after _ _ _ c.list_records-progress.ensures.reached c.args.held.now loop.used (take_rest loop.used c.args.held.now) loop.invariant.inside)
 
 pub returns-then-not-lacks_room-clause-listed : goal.returns-then-not-lacks_room-clause-listed
 returns-then-not-lacks_room-clause-listed g c =
-    let loop = c.loop-totals in
+    let loop = c.loop-listing in
     let all = c.args.held.now in
     let first = c.args.listing.now in
     let e = c.list_records-progress.ensures.reached in
@@ -39,7 +39,7 @@ returns-then-not-lacks_room-clause-listed g c =
 
 pub returns-then-not-lacks_room-clause-short : goal.returns-then-not-lacks_room-clause-short
 returns-then-not-lacks_room-clause-short g c =
-    let loop = c.loop-totals in
+    let loop = c.loop-listing in
     let all = c.args.held.now in
     let used = loop.used + c.list_records-progress.result.used in
     let e = c.list_records-progress.ensures.reached in
@@ -47,17 +47,17 @@ returns-then-not-lacks_room-clause-short g c =
     let none = none_after _ _ _ e all loop.used rest loop.listing.sound (sym c.lacks_room.ensures ∙ c.if-not-lacks_room.true) in
     less_left c.list_records-progress.new.totals all used none (inside_after _ _ _ e all loop.used rest loop.invariant.inside) (omega (arith, c.type_inv.held used))
 
-pub loop-totals-smaller : goal.loop-totals-smaller
-loop-totals-smaller g c =
-    let loop = c.loop-totals in
+pub loop-listing-smaller : goal.loop-listing-smaller
+loop-listing-smaller g c =
+    let loop = c.loop-listing in
     let e = c.list_records-progress.ensures.reached in
     let inside = inside_after _ _ _ e c.args.held.now loop.used (take_rest loop.used c.args.held.now) loop.invariant.inside in
     let lacks = sym c.lacks_room.ensures ∙ c.if-not-lacks_room.false in
     omega (arith, inside, some_used _ _ _ e (line_fits c.in_ok-make_room.ensures.out loop.listing.room) lacks)
 
-pub loop-totals-preserved : goal.loop-totals-preserved
-loop-totals-preserved g c =
-    let loop = c.loop-totals in
+pub loop-listing-preserved : goal.loop-listing-preserved
+loop-listing-preserved g c =
+    let loop = c.loop-listing in
     let all = c.args.held.now in
     let first = c.args.listing.now in
     let e = c.list_records-progress.ensures.reached in

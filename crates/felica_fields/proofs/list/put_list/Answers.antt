@@ -21,13 +21,13 @@ pub returns-in_default-entry_at : goal.returns-in_default-entry_at
 unfolding parted
 returns-in_default-entry_at g c =
     let none = rw c.in_default-entry_at.is at c.entry_at-in-loop.ensures in
-    let some = rw c.in-Some.is at c.entry_at.ensures in
+    let some = c.in-Some.ensures in
     rw (texts_next g.E.Entry.read _ c.args.list.count (omega arith) some)
     (puts_then c.put-2.ensures (leads_end c.loop.invariant (ap (behind_commas (λ text. text)) (texts_end g.E.Entry.read _ _ none))))
 
 pub loop-preserved : goal.loop-preserved
 loop-preserved g c =
-    let some = rw c.in-Some-entry_at.is at c.entry_at-in-loop.ensures in
+    let some = c.in-Some-entry_at.ensures in
     let left : c.args.list.count - (c.loop.counter + 1) ≡ c.args.list.count - c.loop.counter - 1 = omega arith in
     rw left
     (leads_turn _ _ c.loop.invariant
@@ -37,6 +37,6 @@ loop-preserved g c =
 pub returns : goal.returns
 unfolding parted
 returns g c =
-    let some = rw c.in-Some.is at c.entry_at.ensures in
+    let some = c.in-Some.ensures in
     rw (texts_next g.E.Entry.read _ c.args.list.count (omega arith) some)
     (puts_then c.put-2.ensures (leads_end c.loop.invariant (ap (behind_commas (λ text. text)) (texts_none g.E.Entry.read _ _ (omega arith)))))
