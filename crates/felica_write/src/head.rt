@@ -14,7 +14,6 @@ const HEAD_LEN: usize = 2;
 
 // Whether there is room for a body of `size` bytes and a package behind it: 22 where no frame is so long, 21 where the buffer is too small.
 pub(crate) fn room_for(class: Class, size: usize, package: usize, room: usize) -> Result<(), Reason>
-    requires { size ≤ 6000 }
     ensures { result ≡ room_for class size «package» room }
 {
     match class {
@@ -26,14 +25,12 @@ pub(crate) fn room_for(class: Class, size: usize, package: usize, room: usize) -
 
 // A plain command has no package.
 fn frame_room(size: usize, room: usize) -> Result<(), Reason>
-    requires { size ≤ 6000 }
     ensures { result ≡ frame_room size room }
 {
-    let len = HEAD_LEN + size;
-    if MAX_PACKET_LEN < len {
+    if MAX_PACKET_LEN - HEAD_LEN < size {
         return Err(Reason::Unwritable);
     }
-    if room < len {
+    if room < HEAD_LEN + size {
         return Err(Reason::BufferTooSmall);
     }
     Ok(())

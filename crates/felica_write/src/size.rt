@@ -12,11 +12,10 @@ use felica_format::constants::IDM_LEN;
 use felica_layout::{Ending, Layout};
 use felica_writable::handed::Handed;
 
-// All but the package: 5,893 bytes at most, so that sums with it are safe.
+// All but the package.
 pub(crate) fn body_size(layout: Layout, command: Handed<'_>) -> usize
     requires { Ready (handed_by command) }
-    ensures size { result ≡ front_size (layout_meant layout) (length command.entry.first.now) (length command.entry.second.now) command.entry.numbers.now (length command.entry.data.now) }
-    ensures bound { result ≤ 6000 }
+    ensures { result ≡ front_size (layout_meant layout) (length command.entry.first.now) (length command.entry.second.now) command.entry.numbers.now (length command.entry.data.now) }
 {
     size_if(layout.idm, IDM_LEN)
         + size_if(layout.selector.is_some(), 1)

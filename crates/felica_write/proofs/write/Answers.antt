@@ -28,7 +28,7 @@ returns-in_err-map_err c =
     let ok = sym c.body_ok.ensures ∙ c.if-not-body_ok.false in
     let tells : (g : Reason) → c.room_for.result ≡ Err g → c.from_residual.result ≡ refusal g c.args.command.code = λ g e. search rules in
     let fails : is_ok c.room_for.result ≡ false = search rules in
-    not_stored h row.result.class (layout_meant row.result.layout) row.ensures ok _ c.body_size-size.ensures.size c.args.out.now _ (sym c.room_for.ensures) fails tells
+    not_stored h row.result.class (layout_meant row.result.layout) row.ensures ok _ c.body_size-size.ensures c.args.out.now _ (sym c.room_for.ensures) fails tells
 
 pub put_body-requires : goal.put_body-requires
 put_body-requires c =
@@ -41,4 +41,4 @@ returns c =
     let ok = sym c.body_ok.ensures ∙ c.if-not-body_ok.false in
     let fits : ◌≡◌ {A = Room} (room_for row.result.class c.body_size-size.result (length c.args.command.package.now) (length c.args.out.now)) (Ok tt) = search rules in
     let both = puts_then c.put_head.ensures c.put_body.ensures in
-    all_stored h row.result.class (layout_meant row.result.layout) row.ensures ok _ c.body_size-size.ensures.size c.args.out.now fits _ _ (grind (arith, common_steps))
+    all_stored h row.result.class (layout_meant row.result.layout) row.ensures ok _ c.body_size-size.ensures c.args.out.now fits _ _ (grind (arith, common_steps))
