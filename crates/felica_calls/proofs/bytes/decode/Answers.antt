@@ -1,9 +1,9 @@
 -- `felica_calls::bytes::decode` meets its contract: a byte for each turn.
 -- Assumes nothing.
 use Rattle.std.proofs.Common.{◌∙◌, refl, ap, []}
+use Rattle.std.specs.List.{flat_map}
 use Rattle.felica_put.proofs.Laws.{puts_nothing}
 use Rattle.felica_put.proofs.Lists.{puts_same, puts_turn, puts_all}
-use Rattle.std.specs.List.{flat_map}
 use Rattle.felica_calls.proofs.Reading.{pair_bytes, bytes_of_pairs}
 use Rattle.felica_calls.proofs.bytes.decode.Goals as goal
 
