@@ -41,7 +41,7 @@ pub(crate) fn answer_list(source: Source, bytes: &[u8], sizes: Sizes, out: &mut 
     put_listed(out, parsed, first, second, numbers, places, modes);
 }
 
-// This, `parse` and `payload_in` each match on the source: one match for all would take a trait of three methods, with an impl of three for each of these.
+// This, `parse` and `payload_in` each match on the source: one match for all would take a trait of three methods, with an impl of three for each source.
 fn list(source: Source, bytes: &[u8], buffers: &mut ListBuffers) -> Result<Parsed, Refusal>
     ensures same_references { SameReferences buffers.old buffers.new }
     ensures listed { ListAccount (payload_in source bytes.now) (body_at source) (reading_of source bytes.now) (held buffers.old) result (held buffers.new) }

@@ -1,7 +1,7 @@
 // Answers calls: reads them on standard input, a line each, and writes a line for each to standard output.
 #![tactic(auto)]
 
-ghost use Rattle.std.specs.Prelude.{◌≡◌, ◌≤◌, ◌<◌, length, IfSome, IfOk};
+ghost use Rattle.std.specs.Prelude.{◌≡◌, ◌≤◌, length, IfOk};
 ghost use Rattle.felica_put.specs.Output.{held};
 ghost use Rattle.felica_stream.specs.Held.{IsWithin};
 ghost use Rattle.felica_calls.specs.Call.{read_call};
@@ -15,6 +15,7 @@ use felica_calls::fault::{Fault, put_fault};
 use felica_calls::write::behind_code;
 use felica_put::Output;
 use felica_stream::{keep_rest, make_room, read_more};
+use felica_text::find::find;
 use felica_writing::answer_write;
 use lists::answer_list;
 use parse::{answer_long, answer_parse};
@@ -76,13 +77,6 @@ fn answer_next<W: Write>(
     Ok(())
 }
 
-// Where the line feed of the first line stands, if it has one.
-fn line_end(text: &[u8]) -> Option<usize>
-    ensures { IfSome result (λ end. end < length text.now) }
-{
-    text.iter().position(|byte| *byte == b'\n')
-}
-
 // Answers the whole lines of `input`, and says how long the rest of it is.
 fn answer_lines<W: Write>(
     writer: &mut W,
@@ -93,7 +87,8 @@ fn answer_lines<W: Write>(
     ensures { IfOk result (λ rest. rest ≤ length input.now) }
 {
     let mut rest = input;
-    while let Some(end) = line_end(rest) {
+    // Not `split`: it would give what stands behind the last line feed as a line too, and that is the rest.
+    while let Some(end) = find(rest, b'\n') {
         answer_next(writer, &rest[..end], bytes, waiting)?;
         rest = &rest[end + 1..];
     }
@@ -110,7 +105,7 @@ fn skip_line<R: Read>(reader: &mut R, input: &mut Input) {
         if more == 0 {
             return;
         }
-        if let Some(end) = line_end(&room[..more]) {
+        if let Some(end) = find(&room[..more], b'\n') {
             keep_rest(room, end + 1, more);
             input.held = more - (end + 1);
             return;

@@ -1,11 +1,13 @@
 -- Digits and bytes, and the parts of a line.
 -- Assumes nothing.
-use Rattle.std.proofs.Common.{ℕ, ◌-◌, ◌/◌, ◌%◌, ◌≤◌, ◌<◌, ◌≡◌, refl, ap, ◌∙◌, true, false, List, [], ◌∷◌, ◌++◌, length, get_or, take, drop, arith, ne_eqb, le-ltb}
+use Rattle.std.proofs.Common.{ℕ, zero, suc, ◌/◌, ◌%◌, ◌≤◌, ◌<◌, ◌≡◌, refl, ap, ◌∙◌, true, false, List, [], ◌∷◌, ◌++◌, length, get_or, drop, arith, ne_eqb, le-ltb}
 use Rattle.std.proofs.lemmas.Bool.Decides.{nat_tests}
 use Rattle.std.specs.Prelude.{Ok}
+use Rattle.std.specs.List.{flat_map}
+use Rattle.std.specs.Simd.{first_chunks}
 use Rattle.felica_text.specs.Text.{digit_of}
-use Rattle.felica_put.specs.Put.{Buffer, buffer, put}
-use Rattle.felica_put.proofs.Laws.{put_front, take_rest}
+use Rattle.felica_put.specs.Put.{buffer, put}
+use Rattle.felica_put.proofs.Laws.{put_front}
 use Rattle.felica_calls.specs.Field.{is_byte}
 use Rattle.felica_calls.specs.Read.{read}
 use Rattle.felica_calls.specs.Bytes.{value_of, byte_of, bytes_of, all_digits, read_bytes}
@@ -20,20 +22,19 @@ length_bytes [] = refl
 length_bytes (d ∷ []) = refl
 length_bytes (d ∷ e ∷ s) = omega (arith, length_bytes s)
 
--- two digits more of a walk that puts bytes
-pub pair_put : (b : Buffer) (s : List ℕ) {byte : ℕ} {c all : Buffer} → 2 ≤ length s → byte ≡ byte_of (get_or s 0 0) (get_or s 1 0) → c ≡ put b (byte ∷ [])
-    → put b (bytes_of s) ≡ all → put c (bytes_of (take (length s - 2) (drop 2 s))) ≡ all
-unfolding bytes_of put
-pair_put b [] two same first e = absurd (omega arith)
-pair_put b (high ∷ []) two same first e = absurd (omega arith)
-pair_put b (high ∷ low ∷ s) two same first e = rw (take_rest 2 (high ∷ low ∷ s), first, same) e
+-- the byte of two digits, as what a turn puts
+abbrev pub pair_bytes : List ℕ → List ℕ
+pair_bytes pair = byte_of (get_or pair 0 0) (get_or pair 1 0) ∷ []
 
--- and no pair is left
-pub pairs_over : (s : List ℕ) → length s < 2 → bytes_of s ≡ []
+-- the pairs of digits, each as its byte
+pub bytes_of_pairs : (n : ℕ) (s : List ℕ) → length s / 2 ≡ n → flat_map pair_bytes (first_chunks 2 n s) ≡ bytes_of s
 unfolding bytes_of
-pairs_over [] h = refl
-pairs_over (d ∷ []) h = refl
-pairs_over (d ∷ e ∷ s) h = absurd (omega arith)
+bytes_of_pairs zero [] h = refl
+bytes_of_pairs zero (d ∷ []) h = refl
+bytes_of_pairs zero (d ∷ e ∷ s) h = absurd (omega arith)
+bytes_of_pairs (suc n) [] h = absurd (omega arith)
+bytes_of_pairs (suc n) (d ∷ []) h = absurd (omega arith)
+bytes_of_pairs (suc n) (high ∷ low ∷ s) h = ap (◌∷◌ (byte_of high low)) (bytes_of_pairs n s (omega (arith, h)))
 
 -- the bytes decoded to a buffer with room for them
 pub bytes_read : (s l : List ℕ) {m : List ℕ} {n : ℕ} → (length s ≡ 0 → ⊥) → is_byte 45 s ≡ false → all_digits s ≡ true → (length s % 2 ≡ 1 → ⊥) → length s / 2 ≤ length l

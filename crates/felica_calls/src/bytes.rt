@@ -48,10 +48,8 @@ pub(crate) fn read_bytes(field: &[u8], bytes: &mut [u8]) -> Result<usize, Fault>
 pub fn decode(field: &[u8], bytes: &mut Output<u8>)
     ensures { Puts bytes.old bytes.new (bytes_of field.now) }
 {
-    let mut digits = field;
-    while let [high, low, rest @ ..] = digits {
-        bytes.put(byte_of(*high, *low));
-        digits = rest;
+    for &[high, low] in field.as_chunks::<2>().0 {
+        bytes.put(byte_of(high, low));
     }
 }
 

@@ -5,6 +5,7 @@ ghost use Rattle.felica_calls.specs.Number.{all_decimal, read_number};
 use crate::fault::Fault;
 
 // A field as a length of at most `most`. Digits are added up only until they pass it, so that no sum overflows.
+// Not by `parse`: it takes a `str`, for which the bytes would be tested a second time, and knows no bound but the width.
 #[tactic(auto, unfolding(crate::specs::Number::read_number))]
 pub(crate) fn read_number(field: &[u8], most: usize) -> Result<usize, Fault>
     ensures { result ≡ read_number most field.now }

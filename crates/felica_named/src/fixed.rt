@@ -39,6 +39,7 @@ impl Named<'_> {
         }
     }
 
+    // Not one generic function with `byte_handed`: it would carry a trait with the size and both conversions of each type, and their law, for two lines.
     fn word_handed(&self, stray: bool, field: Option<Field>) -> u16
         ensures { result ≡ word_handed (noted_in self.now) stray field }
     {

@@ -65,6 +65,8 @@ impl Named<'_> {
     }
 }
 
+// Not by `split`: what a loop over it asks was proved, but in a function with a type parameter the logic refuses what Rattle states of such an iterator (`iterator-loop-entry`).
+// Behind a `for_each` nothing is known of `numbers`.
 fn put_numbers<T: Number>(value: &[u8], numbers: &mut Output<T>)
     ensures { Puts numbers.old numbers.new (map T.number (numbers_from T.KEPT 0 value.now)) }
 {

@@ -22,7 +22,7 @@ impl<'a> Named<'a> {
         let table = names();
         let mut starts = [None; NAMES];
         let mut at = 0;
-        // Each field begins with its space; a first one need not have it.
+        // Each field begins with its space; a first one need not have it. `at` is summed up, since `starts` holds places in the text and `chunk_by` gives the fields alone.
         for field in text.chunk_by(|_, next| *next != b' ') {
             note(table, field, at, &mut starts)?;
             at += field.len();

@@ -9,7 +9,7 @@ use crate::values::{all_zero, value_at};
 use felica_format::constants;
 
 // The field that each fixed field of a command is read from, if any. The challenge is read from two: of 80, the bytes of `parameter` stand behind those of `challenge`.
-#[derive(Clone, Copy, Debug, PartialEq, Eq)]
+#[derive(Clone, Copy, Debug, Default, PartialEq, Eq)]
 pub(crate) struct Sources {
     pub(crate) selector: Option<Field>,
     pub(crate) number: Option<Field>,
@@ -19,16 +19,6 @@ pub(crate) struct Sources {
     pub(crate) challenge: Option<Field>,
     pub(crate) parameter: Option<Field>,
 }
-
-const NOTHING: Sources = Sources {
-    selector: None,
-    number: None,
-    index: None,
-    option: None,
-    choice: None,
-    challenge: None,
-    parameter: None,
-};
 
 impl Sources {
     #[tactic(auto, unfolding(crate::specs::Handed::selector_from, crate::specs::Handed::number_from, crate::specs::Handed::index_from, crate::specs::Handed::option_from, crate::specs::Handed::choice_from, crate::specs::Handed::challenge_from, crate::specs::Handed::parameter_from))]
@@ -40,7 +30,7 @@ impl Sources {
                 number: Some(Field::System),
                 option: Some(Field::Request),
                 choice: Some(Field::Slots),
-                ..NOTHING
+                ..Sources::default()
             },
             constants::SEARCH_SERVICE_CODE_COMMAND_CODE => Sources::number(Field::Index),
             constants::AUTHENTICATION1_COMMAND_CODE | constants::AUTHENTICATION2_COMMAND_CODE => {
@@ -53,14 +43,14 @@ impl Sources {
             constants::SET_PARAMETER_COMMAND_CODE => Sources {
                 option: Some(Field::Encryption),
                 choice: Some(Field::Packet),
-                ..NOTHING
+                ..Sources::default()
             },
             constants::GET_AREA_INFORMATION_COMMAND_CODE
             | constants::REGISTER_AREA_COMMAND_CODE
             | constants::REGISTER_SERVICE_COMMAND_CODE => Sources::number(Field::Node),
             constants::GET_NODE_PROPERTY_COMMAND_CODE => Sources {
                 selector: Some(Field::PropertyType),
-                ..NOTHING
+                ..Sources::default()
             },
             constants::GET_CONTAINER_PROPERTY_COMMAND_CODE => Sources::number(Field::Property),
             constants::AUTHENTICATION1_V2_COMMAND_CODE => Sources {
@@ -72,7 +62,7 @@ impl Sources {
                 parameter: Some(Field::IssueParameter),
                 ..Sources::challenge(Field::IssueId)
             },
-            _ => NOTHING,
+            _ => Sources::default(),
         }
     }
 
@@ -81,7 +71,7 @@ impl Sources {
     {
         Sources {
             number: Some(field),
-            ..NOTHING
+            ..Sources::default()
         }
     }
 
@@ -90,7 +80,7 @@ impl Sources {
     {
         Sources {
             challenge: Some(field),
-            ..NOTHING
+            ..Sources::default()
         }
     }
 

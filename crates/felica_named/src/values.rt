@@ -44,6 +44,7 @@ pub(crate) fn value_at(text: &[u8], start: Option<usize>) -> &[u8]
     }
 }
 
+// One call of `all`: a function for this and the bytes 00 of felica_cursor would take the byte, and be that call again.
 #[tactic(auto, unfolding(crate::specs::Values::all_zero))]
 pub(crate) fn all_zero(value: &[u8]) -> bool
     ensures { result ≡ all_zero value.now }

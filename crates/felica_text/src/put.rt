@@ -1,4 +1,4 @@
-// Numbers and lists put into a lent buffer as text.
+// Numbers and lists put into a lent buffer as text. No `Display`: it writes through `fmt::Write`, which may answer an `Err` and says what it wrote only where it does not.
 ghost use Rattle.std.specs.Prelude.{◌≡◌, List, ℕ};
 ghost use Rattle.felica_text.specs.Text.{byte_text, word_text, nibble_text, digits_text, bytes_text, parted, decimal_text};
 ghost use Rattle.felica_put.specs.Output.{Puts};

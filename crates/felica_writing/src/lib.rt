@@ -74,7 +74,7 @@ fn answer_named(size: usize, code: u8, named: &Named, out: &mut Output<u8>)
     put_written(out, written, room);
 }
 
-// The list of a field, in a lent buffer.
+// The list of a field, in a lent buffer. What `filled` lends ends with `list`, so that it is cut from `room` again; `bytes_in` does the same.
 fn list_in<'a, T: Number>(named: &Named, field: Field, room: &'a mut [T]) -> &'a [T]
     ensures { result.now ≡ front_with room.old (map T.number (numbers_in T.KEPT (value_named (noted_in named.now) field))) }
 {
@@ -84,7 +84,7 @@ fn list_in<'a, T: Number>(named: &Named, field: Field, room: &'a mut [T]) -> &'a
     &room[..count]
 }
 
-// Its bytes, in a lent buffer.
+// Its bytes, in a lent buffer. Not one function with `list_in`: the method would be a closure, which the contract would have to describe.
 fn bytes_in<'a>(named: &Named, field: Field, room: &'a mut [u8]) -> &'a [u8]
     ensures { result.now ≡ front_with room.old (bytes_of (value_named (noted_in named.now) field)) }
 {

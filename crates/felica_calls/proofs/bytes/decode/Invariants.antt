@@ -1,16 +1,10 @@
--- `felica_calls::bytes::decode` meets its contract: byte after byte.
+-- `felica_calls::bytes::decode` meets its contract: a byte for each turn.
 -- Assumes nothing.
-use Rattle.std.proofs.Common.{◌≡◌, length}
-use Rattle.felica_put.specs.Put.{put}
-use Rattle.felica_put.specs.Output.{held}
-use Rattle.felica_calls.specs.Bytes.{bytes_of}
+use Rattle.std.proofs.Common.{take}
+use Rattle.std.specs.List.{flat_map}
+use Rattle.felica_put.specs.Output.{Puts}
+use Rattle.felica_calls.proofs.Reading.{pair_bytes}
 use Rattle.felica_calls.proofs.bytes.decode.Given as goal
 
-abbrev pub invariant-loop-digits : goal.invariant-loop-digits
-invariant-loop-digits l = record {
-  same_reference : l.bytes.room.ghost_name ≡ l.fn.bytes.room.ghost_name;
-  held : put (held l.bytes) (bytes_of l.digits) ≡ put (held l.fn.bytes) (bytes_of l.field);
-}
-
-abbrev pub decreases-loop-digits : goal.decreases-loop-digits
-decreases-loop-digits l = length l.digits
+abbrev pub invariant-loop-high : goal.invariant-loop-high
+invariant-loop-high l = Puts l.initial.bytes l.bytes (flat_map pair_bytes (take l.high-index l.high-items))
