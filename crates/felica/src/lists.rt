@@ -20,6 +20,7 @@ pub(crate) fn answer_list(source: Source, bytes: &[u8], sizes: Sizes, out: &mut 
     requires { Lent sizes }
     ensures { Puts out.old out.new (list_answer (reading_of source bytes.now) sizes) }
 {
+    // There is no heap: arrays of the greatest length, of which the call's lengths are lent.
     let mut first = [0u16; MAX_LENT];
     let mut second = [0u16; MAX_LENT];
     let mut numbers = [0u16; MAX_LENT];
@@ -41,7 +42,8 @@ pub(crate) fn answer_list(source: Source, bytes: &[u8], sizes: Sizes, out: &mut 
     put_listed(out, parsed, first, second, numbers, places, modes);
 }
 
-// This, `parse` and `payload_in` each match on the source: one match for all would take a trait of three methods, with an impl of three for each source.
+// `list`, and in parse.rt `parse` and `payload_in`, match on the source, each for itself: a trait in their place would have these three methods in three impls, nine
+// functions for three.
 fn list(source: Source, bytes: &[u8], buffers: &mut ListBuffers) -> Result<Parsed, Refusal>
     ensures same_references { SameReferences buffers.old buffers.new }
     ensures listed { ListAccount (payload_in source bytes.now) (body_at source) (reading_of source bytes.now) (held buffers.old) result (held buffers.new) }

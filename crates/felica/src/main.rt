@@ -28,7 +28,7 @@ const MAX_CALL_BYTES: usize = 16384;
 // come to less, and so do the five lists and what the writer writes, 16,384 bytes behind their count.
 const ANSWER_ROOM: usize = 33024;
 
-// The input: a lent buffer, and how many bytes at its front are held.
+// The input: a lent buffer, and how many bytes at its front are held. list_log has one too, which also says that a record finds room; a public one would ask that of callers.
 #[derive(Drop)]
 struct Input<'a> {
     room: &'a mut [u8],
@@ -43,7 +43,7 @@ struct Waiting<'a> {
     ghost within: { IsWithin out },
 }
 
-// An empty line is answered too, so that there is a line for each line.
+// An empty line is answered too, so that there is a line for each line. That the room stays the same is said beside `answered`, which speaks of what it holds.
 fn answer_call(line: &[u8], bytes: &mut [u8], out: &mut Output<u8>)
     ensures same_reference { out.new.room.ghost_name ≡ out.old.room.ghost_name }
     ensures answered { Answered line.now (read_call line.now bytes.old) (held out.old) (held out.new) }
@@ -65,7 +65,8 @@ fn answer_line(line: &[u8], bytes: &mut [u8], out: &mut Output<u8>)
     out.put(b'\n');
 }
 
-// The same, where room is made for it first.
+// The same, where room is made for it first. Here and below writer, input, bytes and output are lent one by one: a method of one struct could not lend a line of its input
+// and change the rest of it at once.
 fn answer_next<W: Write>(
     writer: &mut W,
     line: &[u8],

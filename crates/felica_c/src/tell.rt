@@ -8,6 +8,7 @@ use crate::fields::put_fields;
 use felica_command::command::{Parsed, Refusal};
 
 // Where the result is a command, all of `idm`, `challenge`, `fields` and `parts` are written, zero where the command lacks them. A refusal changes no byte.
+// Four arrays, as C lends them.
 pub fn tell(
     parsed: Result<Parsed, Refusal>,
     idm: &mut [u8; 8],

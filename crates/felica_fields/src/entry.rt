@@ -13,7 +13,7 @@ use felica_put::Output;
 use felica_text::hex::hex_digit;
 use felica_text::put::put_hex_word;
 
-// A value that an entry of a list is read as.
+// What an entry of a list is: a value, and how it is read from the payload.
 pub(crate) trait Entry: Value + Copy {
     ghost read: { List ℕ → TextRead };
 

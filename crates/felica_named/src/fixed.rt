@@ -28,8 +28,8 @@ impl Named<'_> {
         }
     }
 
-    // A number that the command lacks is 1 where a field is named that it lacks: the writer's numbers are shared by commands, and of one that a command lacks it refuses all
-    // but 0.
+    // Where a field is named that the command lacks, each number that it lacks is handed as 1: the writer takes the numbers of all commands, and refuses one that the
+    // command lacks unless it is 0.
     fn byte_handed(&self, stray: bool, field: Option<Field>) -> u8
         ensures { result ≡ byte_handed (noted_in self.now) stray field }
     {

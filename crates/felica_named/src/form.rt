@@ -23,7 +23,7 @@ pub(crate) enum Form {
 }
 
 impl Form {
-    // The form that this letter or digit stands for. No `TryFrom`: there is no error to tell, and `form_of` would drop it again by `ok()`.
+    // The form that this letter or digit stands for. No `TryFrom`: its error would say nothing, and `form_of` would drop it by `ok()`.
     #[tactic(auto, unfolding(crate::specs::Form::form_of_letter))]
     pub(crate) fn from_letter(letter: u8) -> Option<Form>
         ensures { result ≡ form_of_letter letter }

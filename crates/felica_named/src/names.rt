@@ -43,7 +43,7 @@ pub enum Field {
 }
 
 impl Field {
-    // A method and no `From<Field> for usize`: `starts[usize::from(field)]` would not say which number of the field that is.
+    // A method and no `From<Field> for usize`: `starts[usize::from(field)]` would not say that the number is the place of its name.
     #[tactic(auto, unfolding(crate::specs::Fields::place, crate::specs::Names::names, crate::specs::Names::place_in))]
     pub fn place(self) -> usize
         ensures number { result ≡ place self }

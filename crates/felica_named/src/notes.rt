@@ -8,7 +8,8 @@ use crate::names::{NAMES, names, place_in};
 use felica_calls::fault::Fault;
 use felica_text::find::find;
 
-// The fields of a writer's call: their text, and at the number of each name where its value begins there.
+// The fields of a writer's call: their text, and at the number of each name where its value begins there. Places and no slices: a slice has an address, which the equation of
+// `read` could not name. No `impl Model`: a `Copy` struct with a lifetime may have none, and contracts speak of it by `noted_in`.
 #[derive(Clone, Copy, Debug, PartialEq, Eq)]
 pub struct Named<'a> {
     pub text: &'a [u8],
@@ -31,6 +32,7 @@ impl<'a> Named<'a> {
     }
 }
 
+// The table is passed on, since the definitions speak of any.
 #[tactic(auto, unfolding(crate::specs::Notes::note, crate::specs::Notes::note_placed))]
 fn note(table: &[u8], field: &[u8], at: usize, starts: &mut [Option<usize>]) -> Result<(), Fault>
     requires { at + length field.now < 2 ^ 64 }

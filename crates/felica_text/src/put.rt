@@ -57,7 +57,7 @@ pub fn put_nibbles(out: &mut Output<u8>, nibbles: &[u8])
     put_parted(out, nibbles, put_nibble);
 }
 
-// Entries parted by commas, as `put_entry` puts each, and `-` for none.
+// Entries parted by commas, as `put_entry` puts each, and `-` for none. By a closure: the trait of values is felica_fields', which stands on this crate.
 fn put_parted<T: Copy, F: Fn(&mut Output<u8>, T)>(out: &mut Output<u8>, entries: &[T], put_entry: F)
     ghost entry: { T → List ℕ }
     requires callable { F.IsAlwaysCallable put_entry }

@@ -76,7 +76,8 @@ fn choice_ok(ending: Option<Ending>, choice: u8) -> bool
     }
 }
 
-// In each case the compiler knows how many bytes to test.
+// A match, and no slice from a place in a variable, so that the compiler knows of each ending how many bytes it tests. `greatest_of` and `choice_ok` match on their own: each
+// gives another column of `ranges_of`.
 fn challenge_ok(ending: Option<Ending>, challenge: [u8; 16]) -> bool
     ensures { result ≡ (are_bytes 16 challenge and same_list (drop (ranges_of (ending_meant ending)).filled challenge) (zeros (16 - (ranges_of (ending_meant ending)).filled))) }
 {

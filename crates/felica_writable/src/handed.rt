@@ -2,7 +2,8 @@
 use felica_command::fixed::Fixed;
 
 // A command's code, with every fixed field and list that a command may have. A list that the command lacks is empty.
-// Numbers, places and modes are three lists, as C lends them. They may differ in length, which the writer refuses: made into one list of elements before, they would lose entries instead, or need memory of their own.
+// Numbers, places and modes are three lists, as C lends them, and may differ in length, which the writer refuses. One list of elements made of them before would lose
+// entries, or need memory of its own.
 #[derive(Clone, Copy, Debug, PartialEq, Eq)]
 pub struct Handed<'a> {
     pub code: u8,

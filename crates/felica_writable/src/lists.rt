@@ -24,7 +24,7 @@ fn is_between(least: u8, count: usize, greatest: u8) -> bool
 }
 
 // The three lists of a block list: of one length, with places below 16 and modes below 8.
-// Lent one by one, and not in `Handed`: that its entries fit their type is known of a slice that is a parameter, and of one in a struct it is not.
+// Three parameters and no `Handed` (tried): of a slice that is a parameter the check knows that its entries fit their type, of one in a struct it does not.
 pub(crate) fn elements_ok(present: bool, numbers: &[u16], places: &[u8], modes: &[u8]) -> bool
     ensures { result ≡ (same_length numbers.now places.now modes.now and elements_ok present (zip_elements numbers.now places.now modes.now)) }
 {

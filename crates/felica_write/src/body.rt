@@ -17,6 +17,7 @@ use felica_writable::handed::Handed;
 // The least block number that takes two bytes.
 pub(crate) const LEAST_LONG: u16 = 256;
 
+// `Ready` is asked by three functions and not said by a type: `Handed` is public, so that a ghost field would ask it of callers.
 pub(crate) fn put_body(out: &mut Output<'_, u8>, layout: Layout, command: Handed<'_>)
     requires { Ready (handed_by command) }
     ensures { Puts out.old out.new (body_bytes (layout_meant layout) [] (handed_by command.entry)) }

@@ -19,7 +19,7 @@ use felica_writable::handed::Handed;
 use head::{put_head, room_for};
 use size::body_size;
 
-// How many bytes stand at the front of the buffer then; or 22 or 21, with the code handed in, and no byte of the buffer is changed.
+// How many bytes stand at the front of the buffer then (a count and no slice, as C gets it); or 22 or 21, with the code handed in, and no byte of the buffer is changed.
 // `Fixed` says which fields a code has. A list that it lacks has to be empty and a fixed field zero, else it is 22.
 pub fn write(command: Handed<'_>, out: &mut [u8]) -> Result<usize, Refusal>
     ensures { outcome (meaning result) out.new ≡ writing (handed_by command.entry) out.old }

@@ -1,5 +1,6 @@
 // How many bytes the parts of a body have.
-// Apart from `put_body`, which goes over the same parts: one walk for both would take what is put as a type parameter, and its count would add 1 for each byte where a part here is one product or sum.
+// Apart from `put_body`, which goes over the same parts: one walk for both would have what is put as a type parameter, and would count byte by byte where a part here is
+// one product or sum.
 ghost use Rattle.std.specs.Prelude.{◌≡◌, cond, ◌≤◌, length, ltb};
 ghost use Rattle.felica_format.specs.Read.{size_of};
 ghost use Rattle.felica_layout.specs.Layout.{layout_meant, ending_meant};
