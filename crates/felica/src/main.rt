@@ -172,6 +172,7 @@ fn finish<W: Write>(
     writer.write_all(waiting.out.filled())
 }
 
+// The arrays are lent by `main`, since there is no heap.
 fn run<R: Read, W: Write>(
     reader: &mut R,
     writer: &mut W,

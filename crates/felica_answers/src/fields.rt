@@ -2,11 +2,12 @@
 ghost use Rattle.std.specs.Prelude.{◌≡◌, List, ◌++◌, ℕ};
 ghost use Rattle.felica_command.specs.Types.{node_property_byte, encryption_byte, packet_byte};
 ghost use Rattle.felica_put.specs.Output.{Puts};
+ghost use Rattle.felica_text.specs.Text.{byte_text};
 ghost use Rattle.felica_fields.specs.Field.{byte_field, word_field, first_field, second_field, blocks_field, data_field, issue_fields};
 ghost use Rattle.felica_answers.specs.Answer.{row_of, row_text, idm_text};
 
 use felica_command::command::{FelicaStandardCommand as Command, Parsed, Part};
-use felica_command::types::{NodePropertyType, SetParameterEncryptionType, SetParameterPacketType};
+use felica_command::types::{SetParameterEncryptionType, SetParameterPacketType};
 use felica_fields::field::{bytes_of, put_field};
 use felica_fields::list::{Blocks, Codes};
 use felica_put::Output;
@@ -64,11 +65,17 @@ fn put_codes_of(out: &mut Output<u8>, payload: &[u8], command: Command)
         Command::GetNodeProperty {
             node_property_type,
             node_codes,
-        } => put_type_and_nodes(out, payload, node_property_type, node_codes),
+        } => put_byte_and_nodes(
+            out,
+            payload,
+            b" type=",
+            node_property_type.to_byte(),
+            node_codes,
+        ),
         Command::Authentication1V2 {
             operation_parameter,
             nodes,
-        } => put_operation_and_nodes(out, payload, operation_parameter, nodes),
+        } => put_byte_and_nodes(out, payload, b" operation=", operation_parameter, nodes),
         _ => {}
     }
 }
@@ -167,27 +174,10 @@ fn put_areas_and_services(out: &mut Output<u8>, payload: &[u8], areas: Part, ser
     put_field(out, b" second=", Codes(payload, services));
 }
 
-fn put_type_and_nodes(
-    out: &mut Output<u8>,
-    payload: &[u8],
-    node_property_type: NodePropertyType,
-    node_codes: Part,
-)
-    ensures { Puts out.old out.new (byte_field " type=" (node_property_byte node_property_type) ++ first_field payload.now node_codes) }
+fn put_byte_and_nodes(out: &mut Output<u8>, payload: &[u8], name: &[u8], byte: u8, nodes: Part)
+    ensures { Puts out.old out.new ((name.now ++ byte_text byte) ++ first_field payload.now nodes) }
 {
-    put_field(out, b" type=", node_property_type.to_byte());
-    put_first(out, payload, node_codes);
-}
-
-fn put_operation_and_nodes(
-    out: &mut Output<u8>,
-    payload: &[u8],
-    operation_parameter: u8,
-    nodes: Part,
-)
-    ensures { Puts out.old out.new (byte_field " operation=" operation_parameter ++ first_field payload.now nodes) }
-{
-    put_field(out, b" operation=", operation_parameter);
+    put_field(out, name, byte);
     put_first(out, payload, nodes);
 }
 

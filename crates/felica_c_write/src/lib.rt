@@ -1,4 +1,4 @@
-// The writer for C. include/felica.h says what it promises in words.
+// The writer for C. include/felica.h says what it promises in words, and has these parameters.
 #![tactic(auto)]
 
 ghost use Rattle.std.specs.Prelude.{◌≡◌};

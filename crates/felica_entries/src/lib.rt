@@ -1,5 +1,5 @@
 // One entry of a part, in its wrapper. A part may be any two numbers: an entry that does not stand inside the payload is none.
-// A list is named as `Parsed` names it: a part, beside the payload that it counts from.
+// A list is named as `Parsed` names it, a part beside the payload that it counts from: a struct of both would be made for one entry and taken apart at once.
 #![tactic(auto)]
 
 ghost use Rattle.std.specs.Prelude.{◌≡◌};

@@ -35,7 +35,7 @@ impl Value for Blocks<'_> {
     }
 }
 
-// As many entries as the payload has whole.
+// As many entries as the payload has whole. Not by felica_text's walk over a slice: without a heap the entries are not gathered first.
 fn put_list<E: Entry>(out: &mut Output<u8>, payload: &[u8], list: Part)
     ensures { Puts out.old out.new (parted (λ text. text) (texts_of E.read list.count (drop list.start payload.now))) }
 {

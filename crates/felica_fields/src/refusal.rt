@@ -1,4 +1,4 @@
-// A refusal as text: `NO`, the number of its ground and the code, or `--` where it has none.
+// A refusal as text: `NO`, the number of its reason and the code, or `--` where it has none.
 ghost use Rattle.felica_put.specs.Output.{Puts};
 ghost use Rattle.felica_fields.specs.Refused.{refusal_text};
 

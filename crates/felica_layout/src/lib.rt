@@ -67,7 +67,7 @@ pub struct Row {
     pub layout: Layout,
 }
 
-// The bounds of service codes are those of node codes.
+// The bounds of service codes are those of node codes. The class stands in felica_format's table too, which the parser reads alone.
 pub fn row_of(code: u8) -> Row
     ensures { row_meant result ≡ row_of code }
 {

@@ -12,6 +12,7 @@ use felica_command::lists::Lists;
 use felica_cursor::cursor::Cursor;
 use felica_format::error::Reason;
 
+// That the lists lie inside the payload is asked by three functions and said by no type: a `Part` is public and may be any two numbers.
 // Writes all lists, or nothing where a buffer is shorter than its list. So every buffer is measured before one is written.
 pub(crate) fn fill(payload: &[u8], lists: Lists, out: &mut ListBuffers) -> Result<(), Reason>
     requires { ListsInside payload.now lists }

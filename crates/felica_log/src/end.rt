@@ -16,6 +16,7 @@ pub fn put_end(out: &mut Output<u8>, rest: &[u8], totals: Totals)
     put_total_line(out, totals);
 }
 
+// Not by `look_ahead`: it also asks for room and for totals, which the end needs not, and does not tell how many bytes lack.
 fn put_rest_line(out: &mut Output<u8>, rest: &[u8], totals: Totals)
     ensures { Puts out.old out.new (rest_line (records_left totals) rest.now) }
 {

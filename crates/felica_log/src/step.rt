@@ -16,7 +16,8 @@ pub struct Progress {
     pub stop: Stop,
 }
 
-// Lists the whole records at the front of `piece` into `out`, which stays the same room. `totals` are those of the records before it, and count these too.
+// Lists the whole records at the front of `piece` into `out`, which stays the same room: that is said beside `reached`, which speaks of
+// what it holds. `totals` are those of the records before it, and count these too.
 pub fn list_records(piece: &[u8], out: &mut Output<u8>, totals: &mut Totals) -> Progress
     ensures same_reference { out.new.room.ghost_name ≡ out.old.room.ghost_name }
     ensures reached { reached (held out.new) totals.new result.used result.stop ≡ step (held out.old) totals.old piece.now }

@@ -134,6 +134,7 @@ fn put_ending(out: &mut Output<'_, u8>, ending: Option<Ending>, fixed: Fixed)
     }
 }
 
+// Apart from `put_if`, since what stands behind a body is one of two things, and no flag.
 #[tactic(auto, unfolding(felica_format::specs::Write::package_bytes, felica_put::specs::Put::put))]
 fn put_package(out: &mut Output<'_, u8>, behind: Option<Behind>, package: &[u8])
     ensures { Puts out.old out.new (package_bytes (behind_meant behind) «package».now) }

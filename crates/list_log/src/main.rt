@@ -54,7 +54,8 @@ fn list_held<W: Write>(writer: &mut W, held: &[u8], listing: &mut Listing) -> io
     }
 }
 
-// Lists what is held, and moves the rest of it to the front.
+// Lists what is held, and moves the rest of it to the front. Here and below writer, input and listing are lent one by one, as in felica: a method of one struct could not
+// lend what is held of its input and change the rest of it at once.
 fn list_input<W: Write>(writer: &mut W, input: &mut Input, listing: &mut Listing) -> io::Result<()>
     ensures listed { OnOk result (RestKept (W.contents writer.old) listing.old.totals (put_in listing.old.out) (bytes_in input.old) (W.contents writer.new) listing.new.totals (put_in listing.new.out) (bytes_in input.new)) }
     ensures short { OnOk result (listing.new.totals.records < max_records → input.new.held < 256) }
@@ -134,7 +135,7 @@ fn list<R: Read, W: Write>(
     finish(writer, &input.room[..input.held], listing).map_err(|_| Failure::Write)
 }
 
-// Lists the log; one without TOTAL is not complete, and then the error output says why.
+// Lists the log; one without TOTAL is not complete, and then the error output says why. The arrays are lent by `main`, since there is no heap.
 fn run<R: Read, W: Write, E: Write>(
     reader: &mut R,
     writer: &mut W,
