@@ -1,2 +1,4 @@
 pub mod Listed
-pub mod Within
+pub mod SameCall
+pub mod Lines
+pub mod Held

@@ -1,12 +1,12 @@
--- The answer to a line, in the output before it and behind it.
+-- The text that answers a call, and that of a line which says one.
 -- Assumes nothing.
-use Rattle.std.specs.Prelude.{ℕ, ◌≡◌, List, [], ◌∷◌, take, Result, Ok, Err}
+use Rattle.std.specs.Prelude.{ℕ, ◌≡◌, List, take, Result, Ok, Err}
+use Rattle.felica_format.specs.Basic.{zeros}
 use Rattle.felica_command.specs.Places.{Account}
 use Rattle.felica_command.specs.Meaning.{ParserResult}
-use Rattle.felica_put.specs.Put.{Buffer, put}
 use Rattle.felica_calls.specs.Fault.{fault_text}
 use Rattle.felica_calls.specs.Write.{behind_code}
-use Rattle.felica_calls.specs.Call.{Called}
+use Rattle.felica_calls.specs.Call.{Called, read_call}
 use Rattle.felica_calls.specs.declared.fault.Fault.{Fault}
 use Rattle.felica_calls.specs.declared.call.Call.{Call}
 use Rattle.felica_calls.specs.declared.call.Call.TheVariants.{Parse, Long, List as ListCall, Write}
@@ -16,19 +16,25 @@ use Rattle.felica_writing.specs.Answer.{write_answer}
 use Rattle.felica.specs.Source.{reading_of, payload_in, body_at}
 use Rattle.felica.specs.Lists.{list_answer}
 
--- of a call to parse, the line of the one result that the definitions allow; of one that asks how many elements were long, the line of what they count; the fields of a call to write stand in the line
-abbrev pub AnswerTo : List ℕ → Result Call Fault → List ℕ → Buffer → Buffer → Type 0
-AnswerTo line (Ok (Parse source n)) bytes before after =
+-- Of a call to parse, the line of the one result that the definitions allow; of one that asks how many elements were long, the line of what they count. The bytes of a call stand at the
+-- front of a buffer, the fields of a call to write in the line.
+abbrev pub AnswerText : List ℕ → Result Call Fault → List ℕ → List ℕ → Type 0
+AnswerText line (Ok (Parse source n)) bytes text =
     (p : ParserResult) × Account (payload_in source (take n bytes)) (body_at source) (reading_of source (take n bytes)) p
-    × (after ≡ put before (line_of (payload_in source (take n bytes)) p))
-AnswerTo line (Ok (Long source n)) bytes before after = after ≡ put before (long_line (reading_of source (take n bytes)))
-AnswerTo line (Ok (ListCall source n z)) bytes before after = after ≡ put before (list_answer (reading_of source (take n bytes)) z)
-AnswerTo line (Ok (Write size c)) bytes before after = after ≡ put before (write_answer size c (behind_code line))
-AnswerTo line (Err fault) bytes before after = after ≡ put before (fault_text fault)
+    × (text ≡ line_of (payload_in source (take n bytes)) p)
+AnswerText line (Ok (Long source n)) bytes text = text ≡ long_line (reading_of source (take n bytes))
+AnswerText line (Ok (ListCall source n z)) bytes text = text ≡ list_answer (reading_of source (take n bytes)) z
+AnswerText line (Ok (Write size c)) bytes text = text ≡ write_answer size c (behind_code line)
+AnswerText line (Err fault) bytes text = text ≡ fault_text fault
 
-unfoldable pub Answered : List ℕ → Called → Buffer → Buffer → Type 0
-Answered line c before after = AnswerTo line c.answer c.buffer before after
+-- bytes of the longest call
+abbrev pub max_call_bytes : ℕ
+max_call_bytes = 16384
 
--- a line feed behind it, whose code is 10
-unfoldable pub LineAnswered : List ℕ → Called → Buffer → Buffer → Type 0
-LineAnswered line c before after = (answered : Buffer) × Answered line c before answered × (after ≡ put answered (10 ∷ []))
+-- what a line says as a call
+abbrev pub call_of : List ℕ → Called
+call_of line = read_call line (zeros max_call_bytes)
+
+-- the text that answers it
+abbrev pub CallText : List ℕ → List ℕ → Type 0
+CallText line text = AnswerText line (call_of line).answer (call_of line).buffer text

@@ -1,156 +1,85 @@
 // Answers calls: reads them on standard input, a line each, and writes a line for each to standard output.
 #![tactic(auto)]
 
-ghost use Rattle.std.specs.Prelude.{◌≡◌, ◌≤◌, length, IfOk};
+ghost use Rattle.std.specs.Prelude.{◌≡◌, ◌≤◌, ◌<◌, true, false, OnOk, IfOk, length, take, drop, ◌++◌, List, ℕ};
+ghost use Rattle.std.specs.Io.KnownBytes.{Consumes, Appends, IsAtEnd};
 ghost use Rattle.felica_put.specs.Output.{held};
-ghost use Rattle.felica_stream.specs.Held.{IsWithin};
-ghost use Rattle.felica_calls.specs.Call.{read_call};
-ghost use Rattle.felica.specs.Answers.{Answered, LineAnswered};
+ghost use Rattle.felica.specs.Answers.{max_call_bytes};
+ghost use Rattle.felica.specs.Lines.{TakesAnswers};
+ghost use Rattle.felica.specs.Room.{answer_room, input_size};
+ghost use Rattle.felica.specs.Held.{bytes_in, AllAnswered, AllRead, RestAnswered};
 
+mod answer;
+mod input;
 mod lists;
 mod parse;
+mod usage;
+mod waiting;
 
-use felica_calls::call::{Call, read_call};
-use felica_calls::fault::{Fault, put_fault};
-use felica_calls::write::behind_code;
 use felica_put::Output;
+use felica_stream::arguments::join_arguments;
+use felica_stream::failure::Failure;
 use felica_stream::{keep_rest, make_room, read_more};
-use felica_text::find::find;
-use felica_writing::answer_write;
-use lists::answer_list;
-use parse::{answer_long, answer_parse};
+use input::Input;
 use std::io::{self, Read, Write};
+use std::process::ExitCode;
+use usage::answer_words;
+use waiting::{Waiting, answer_lines, answer_next};
 
-// Bytes of the longest call.
-const MAX_CALL_BYTES: usize = 16384;
-
-// Room for the longest answer and its line feed: a package of that many bytes in digits, and the fields before it. Blocks and codes
-// come to less, and so do the five lists and what the writer writes, 16,384 bytes behind their count.
-const ANSWER_ROOM: usize = 33024;
-
-// The input: a lent buffer, and how many bytes at its front are held. list_log has one too, which also says that a record finds room; a public one would ask that of callers.
-#[derive(Drop)]
-struct Input<'a> {
-    room: &'a mut [u8],
-    held: usize,
-    ghost inside: { held ≤ length room.now },
-}
-
-// The answers that wait to be written, which are within their room.
-#[derive(Drop)]
-struct Waiting<'a> {
-    out: Output<'a, u8>,
-    ghost within: { IsWithin out },
-}
-
-// An empty line is answered too, so that there is a line for each line. That the room stays the same is said beside `answered`, which speaks of what it holds.
-fn answer_call(line: &[u8], bytes: &mut [u8], out: &mut Output<u8>)
-    ensures same_reference { out.new.room.ghost_name ≡ out.old.room.ghost_name }
-    ensures answered { Answered line.now (read_call line.now bytes.old) (held out.old) (held out.new) }
-{
-    match read_call(line, bytes) {
-        Ok(Call::Parse(source, count)) => answer_parse(source, &bytes[..count], out),
-        Ok(Call::Long(source, count)) => answer_long(source, &bytes[..count], out),
-        Ok(Call::List(source, count, sizes)) => answer_list(source, &bytes[..count], sizes, out),
-        Ok(Call::Write(size, code)) => answer_write(size, code, behind_code(line), out),
-        Err(fault) => put_fault(out, fault),
-    }
-}
-
-fn answer_line(line: &[u8], bytes: &mut [u8], out: &mut Output<u8>)
-    ensures same_reference { out.new.room.ghost_name ≡ out.old.room.ghost_name }
-    ensures answered { LineAnswered line.now (read_call line.now bytes.old) (held out.old) (held out.new) }
-{
-    answer_call(line, bytes, out);
-    out.put(b'\n');
-}
-
-// The same, where room is made for it first. Here and below writer, input, bytes and output are lent one by one: a method of one struct could not lend a line of its input
-// and change the rest of it at once.
-fn answer_next<W: Write>(
-    writer: &mut W,
-    line: &[u8],
-    bytes: &mut [u8],
-    waiting: &mut Waiting,
-) -> io::Result<()> {
-    make_room(writer, &mut waiting.out, ANSWER_ROOM)?;
-    answer_line(line, bytes, &mut waiting.out);
-    Ok(())
-}
-
-// Answers the whole lines of `input`, and says how long the rest of it is.
-fn answer_lines<W: Write>(
-    writer: &mut W,
-    input: &[u8],
-    bytes: &mut [u8],
-    waiting: &mut Waiting,
-) -> io::Result<usize>
-    ensures { IfOk result (λ rest. rest ≤ length input.now) }
-{
-    let mut rest = input;
-    // Not `split`: it would give what stands behind the last line feed as a line too, and that is the rest.
-    while let Some(end) = find(rest, b'\n') {
-        answer_next(writer, &rest[..end], bytes, waiting)?;
-        rest = &rest[end + 1..];
-    }
-    Ok(rest.len())
-}
-
-// Passes over the rest of a line, so that what is held stands behind it. A proved loop has to end, and nothing says that the input does:
-// here and in `feed` the turns are counted.
-fn skip_line<R: Read>(reader: &mut R, input: &mut Input) {
-    input.held = 0;
-    let room = &mut *input.room;
-    for _ in 0..u64::MAX {
-        let more = read_more(reader, room, 0).unwrap_or(0);
-        if more == 0 {
-            return;
-        }
-        if let Some(end) = find(&room[..more], b'\n') {
-            keep_rest(room, end + 1, more);
-            input.held = more - (end + 1);
-            return;
-        }
-    }
-}
-
-// Answers the whole lines of what is held, and moves the rest to the start. A line that fills the buffer is too long.
-fn answer_held<R: Read, W: Write>(
-    reader: &mut R,
+// Answers the lines that end in what is held, and moves the rest to the front. The rest of a line that fills the buffer, or that is too long already, is passed over.
+fn answer_held<W: Write>(
     writer: &mut W,
     input: &mut Input,
-    bytes: &mut [u8],
     waiting: &mut Waiting,
-) -> io::Result<()> {
-    let held = input.held;
+) -> io::Result<()>
+    ensures answered { OnOk result (AllAnswered (W.contents writer.old) (held waiting.old.out) input.old.too_long (bytes_in input.old) (W.contents writer.new) (held waiting.new.out) input.new.too_long (bytes_in input.new)) }
+    ensures room { OnOk result (input.new.held < input_size) }
+{
+    let end = input.held;
     let room = &mut *input.room;
-    let rest = answer_lines(writer, &room[..held], bytes, waiting)?;
-    if rest < room.len() {
-        keep_rest(room, held - rest, held);
-        input.held = rest;
-        return Ok(());
+    let left = answer_lines(writer, &room[..end], &mut input.too_long, waiting)?;
+    if input.too_long || left == room.len() {
+        input.too_long = true;
+        input.held = 0;
+    } else {
+        keep_rest(room, end - left, end);
+        input.held = left;
     }
-    make_room(writer, &mut waiting.out, ANSWER_ROOM)?;
-    put_fault(&mut waiting.out, Fault::LineTooLong);
-    waiting.out.put(b'\n');
-    skip_line(reader, input);
     Ok(())
 }
 
-// Reads the input to its end, and answers every line that ends in a line feed. What is held then is the last line, which has none. A read that fails is the end, too.
+// Reads once behind what is held, and answers whether the input has ended: there is room to read into, so that a read which brings nothing is its end.
+fn read_piece<R: Read>(reader: &mut R, input: &mut Input) -> io::Result<bool>
+    requires { input.old.held < input_size }
+    ensures bytes { OnOk result (Consumes (R.remaining reader.old) (R.remaining reader.new) (drop input.old.held (bytes_in input.new))) }
+    ensures end { IfOk result (λ ended. ended ≡ true → IsAtEnd (R.remaining reader.new)) }
+    ensures more { IfOk result (λ ended. ended ≡ false → input.old.held < input.new.held) }
+    ensures kept { OnOk result ((input.old.held ≤ input.new.held) × (take input.old.held input.new.room.now ≡ bytes_in input.old)) }
+    ensures line { input.new.too_long ≡ input.old.too_long }
+{
+    let end = input.held;
+    let more = read_more(reader, &mut *input.room, end)?;
+    input.held = more;
+    Ok(more == end)
+}
+
+// Reads the calls and answers every line that ends, until what is held is the last line, which does not. What waits is written before each read: it may be what the other side waits
+// for before it writes on. A proved loop has to end, and nothing says that the input does: the turns are counted.
 fn feed<R: Read, W: Write>(
     reader: &mut R,
     writer: &mut W,
     input: &mut Input,
-    bytes: &mut [u8],
     waiting: &mut Waiting,
-) -> io::Result<()> {
+) -> Result<(), Failure>
+    requires started { (input.old.held ≡ 0) × (input.old.too_long ≡ false) × (waiting.old.out.len ≡ 0) }
+    ensures all { OnOk result (AllRead (R.remaining reader.old) (R.remaining reader.new) (W.contents writer.old) (W.contents writer.new) (held waiting.new.out) input.new.too_long (bytes_in input.new)) }
+{
     for _ in 0..u64::MAX {
-        let held = input.held;
-        let more = read_more(reader, &mut *input.room, held).unwrap_or(held);
-        input.held = more;
-        answer_held(reader, writer, input, bytes, waiting)?;
-        if more == held {
+        let all = waiting.out.room.len();
+        make_room(writer, &mut waiting.out, all).map_err(|_| Failure::Write)?;
+        let ended = read_piece(reader, input).map_err(|_| Failure::Read)?;
+        answer_held(writer, input, waiting).map_err(|_| Failure::Write)?;
+        if ended {
             return Ok(());
         }
     }
@@ -158,48 +87,81 @@ fn feed<R: Read, W: Write>(
 }
 
 // Answers what is held as the last line, if there is one, and writes what waits.
-fn finish<W: Write>(
-    writer: &mut W,
-    input: &mut Input,
-    bytes: &mut [u8],
-    waiting: &mut Waiting,
-) -> io::Result<()> {
-    let held = input.held;
+fn finish<W: Write>(writer: &mut W, input: &mut Input, waiting: &mut Waiting) -> io::Result<()>
+    requires { input.old.held < input_size }
+    ensures { OnOk result (RestAnswered (W.contents writer.old) (held waiting.old.out) input.old.too_long (bytes_in input.old) (W.contents writer.new)) }
+{
+    let end = input.held;
     let room = &mut *input.room;
-    if held != 0 {
-        answer_next(writer, &room[..held], bytes, waiting)?;
+    if end != 0 || input.too_long {
+        answer_next(writer, &room[..end], input.too_long, waiting)?;
     }
     writer.write_all(waiting.out.filled())
 }
 
-// The arrays are lent by `main`, since there is no heap.
+// Answers all calls.
+fn answer_all<R: Read, W: Write>(
+    reader: &mut R,
+    writer: &mut W,
+    input: &mut Input,
+    waiting: &mut Waiting,
+) -> Result<(), Failure>
+    requires { (input.old.held ≡ 0) × (input.old.too_long ≡ false) × (waiting.old.out.len ≡ 0) }
+    ensures { OnOk result (TakesAnswers (R.remaining reader.old) (W.contents writer.old) (W.contents writer.new)) }
+{
+    feed(reader, writer, input, waiting)?;
+    finish(writer, input, waiting).map_err(|_| Failure::Write)
+}
+
 fn run<R: Read, W: Write>(
     reader: &mut R,
     writer: &mut W,
     input: &mut [u8],
-    bytes: &mut [u8],
-    out: &mut [u8],
-) -> io::Result<()> {
+    waiting: &mut Waiting,
+) -> Result<(), Failure>
+    requires { (length input.old ≡ input_size) × (waiting.old.out.len ≡ 0) }
+    ensures { OnOk result (TakesAnswers (R.remaining reader.old) (W.contents writer.old) (W.contents writer.new)) }
+{
     let mut input = Input {
         room: input,
         held: 0,
+        too_long: false,
     };
-    let mut waiting = Waiting {
-        out: Output::new(out),
-    };
-    feed(reader, writer, &mut input, bytes, &mut waiting)?;
-    finish(writer, &mut input, bytes, &mut waiting)
+    answer_all(reader, writer, &mut input, waiting)
 }
 
-fn main(rt: HostRuntime) {
+// Says on the error output what failed.
+fn status_of<E: Write>(done: Result<ExitCode, Failure>, errors: &mut E) -> ExitCode {
+    let said: &[u8] = match done {
+        Ok(status) => return status,
+        Err(Failure::Read) => b"felica: the calls cannot be read\n",
+        Err(Failure::Write) => b"felica: the answers cannot be written\n",
+    };
+    let _ = errors.write_all(said);
+    ExitCode::FAILURE
+}
+
+// The arrays stand here, since there is no heap.
+fn main(rt: HostRuntime) -> ExitCode {
     let mut input = [0u8; 65536];
-    let mut bytes = [0u8; MAX_CALL_BYTES];
+    let mut bytes = [0u8; 16384];
     let mut out = [0u8; 65536];
-    let _ = run(
-        &mut rt.stdin(),
-        &mut rt.stdout(),
-        &mut input,
-        &mut bytes,
-        &mut out,
-    );
+    let mut waiting = Waiting {
+        out: Output::new(&mut out),
+        bytes: &mut bytes,
+    };
+    // Words that find no room are no call, as none are.
+    let words = join_arguments(&rt, &mut input[..65535]).unwrap_or(Some(0));
+    let done = match words {
+        None => run(&mut rt.stdin(), &mut rt.stdout(), &mut input, &mut waiting)
+            .map(|_| ExitCode::SUCCESS),
+        Some(end) => answer_words(
+            &mut rt.stdout(),
+            &mut rt.stderr(),
+            &input[..end],
+            &mut waiting,
+        )
+        .map_err(|_| Failure::Write),
+    };
+    status_of(done, &mut rt.stderr())
 }

@@ -1,6 +1,7 @@
 -- What a read leaves as it was, bytes moved to the front, and the room behind what waits to be written.
 -- Assumes nothing.
-use Rattle.std.proofs.Common.{ℕ, ◌+◌, ◌-◌, ◌≤◌, ◌<◌, ◌≡◌, refl, sym, ap, ◌∙◌, Bool, true, false, cond, leb, List, ◌++◌, length, take, drop, arith}
+use Rattle.std.proofs.Common.{ℕ, ◌+◌, ◌-◌, ◌≤◌, ◌<◌, ◌≡◌, refl, sym, ap, ◌∙◌, Bool, true, false, cond, leb, List, ◌++◌, append-nil, length, take, drop, arith}
+use Rattle.std.proofs.Math.Nat.{sub-zero}
 use Rattle.std.proofs.Math.Seq.{paste, drop-append_seam}
 use Rattle.std.proofs.lemmas.Bool.{lt-leb, le-leb, leb-true}
 use Rattle.std.proofs.lemmas.List.{drop-take, take-append-le, length-take-le}
@@ -51,7 +52,18 @@ module _ (next room n : ℕ) where
   made true q h = leb-true _ _ q
   made false q h = omega arith
 
+-- what waits is what is written where room is made, and what still waits
+still : (out : List ℕ) (next : ℕ) (fits : Bool) → take next out ≡ take (next - cond fits next 0) out ++ take (cond fits next 0) out
+still out next true = let none : next - next ≡ 0 = omega arith in rw none
+still out next false = rw sub-zero (sym (append-nil (take next out)))
+
 module _ {a b : Output ℕ} {room : ℕ} (e : RoomMade a b room) where
+  pub still_waits : take a.len a.room.now ≡ take (a.len - b.len) a.room.now ++ take b.len b.room.now
+  still_waits =
+      ap (λ (x : Buffer). take a.len a.room.now) e.held
+      ∙ still a.room.now a.len (leb (a.len + room) (length a.room.now))
+      ∙ ap (λ (x : Buffer). take (a.len - x.next) a.room.now ++ take x.next x.bytes) (sym e.held)
+
   pub still_is : b.len ≡ still_waiting (length a.room.now) a.len room
   still_is = ap (λ (x : Buffer). x.next) e.held
 

@@ -6,6 +6,9 @@ ghost use Rattle.std.specs.Prelude.{◌≡◌, ◌≤◌, ◌<◌, ◌+◌, ◌-
 ghost use Rattle.std.specs.Io.KnownBytes.{Consumes, Keeps, Appends, IsAtEnd};
 ghost use Rattle.felica_stream.specs.Held.{moved, still_waiting, RoomMade};
 
+pub mod arguments;
+pub mod failure;
+
 use felica_put::Output;
 use std::io::{self, ErrorKind, Read, Write};
 

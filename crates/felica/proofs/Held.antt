@@ -1,0 +1,87 @@
+-- Lines answered one behind another, and the rest of the input kept.
+-- Assumes nothing.
+use Rattle.std.proofs.Common.{ℕ, suc, ◌+◌, ◌-◌, ◌≤◌, ◌<◌, ◌≡◌, refl, sym, ap, ◌∙◌, subst, arith, Bool, true, false, List, [], ◌∷◌, ◌++◌, append_assoc, append-nil, length, take, drop, length-append, length-take-le}
+use Rattle.std.specs.Prelude.{Option, None, Some}
+use Rattle.std.specs.Io.KnownBytes.{Consumes, Appends, IsAtEnd}
+use Rattle.std.proofs.KnownBytes.{Appends-nil, Appends-trans, Consumes-nil, Consumes-trans}
+use Rattle.felica_text.specs.Text.{place_of}
+use Rattle.felica_put.specs.declared.Output.{Output}
+use Rattle.felica_put.specs.Output.{Puts, held}
+use Rattle.felica_put.specs.Put.{Buffer}
+use Rattle.felica_put.proofs.Laws.{put_taken, put_within, kept}
+use Rattle.felica_stream.specs.Held.{RoomMade}
+use Rattle.felica_stream.proofs.Held.{room_length, waits_inside, room_made, still_waits}
+use Rattle.felica.specs.Lines.{lines_from, lines_of, LineText, Answers, TakesAnswers}
+use Rattle.felica.specs.Room.{answer_room, HasAnswerRoom}
+use Rattle.felica.specs.Held.{Passed, NoEnd, AnsweredUpTo, AllAnswered, ReadAndAnswered, ReadToEnd, at_end, too_long, AllRead, LineAnswered, RestAnswered}
+use Rattle.felica.proofs.Lines.{line_found, no_line_found, last_line, no_last_line}
+
+-- an answer put in the room that was made for it
+module _ {o p q : Output ℕ} (line text : List ℕ) (made : RoomMade o p answer_room) (room : HasAnswerRoom o) (short : length text < answer_room) (puts : Puts p q (text ++ (10 ∷ []))) where
+  fits : p.len + length (text ++ (10 ∷ [])) ≤ length p.room.now
+  fits = omega (arith, room_made made room.answer, short, length-append text (10 ∷ []))
+
+  pub answer_put : (v w : Option (List ℕ)) → LineText line text → Appends v w (take (o.len - p.len) o.room.now) → LineAnswered v (held o) line w (held q)
+  answer_put v w is taken = record {
+    text = text;
+    is_text = is;
+    written = take (o.len - p.len) o.room.now;
+    waits =
+        ap (λ (x : List ℕ). x ++ (text ++ (10 ∷ []))) (still_waits made)
+        ∙ append_assoc (take (o.len - p.len) o.room.now) (take p.len p.room.now) (text ++ (10 ∷ []))
+        ∙ ap (λ (x : List ℕ). take (o.len - p.len) o.room.now ++ x)
+        (sym (ap (λ (b : Buffer). take b.next b.bytes) puts.held ∙ put_taken (text ++ (10 ∷ [])) p.room.now p.len fits));
+    taken = taken;
+  }
+
+-- room is there still
+pub room_kept : {o p : Output ℕ} {room : ℕ} → RoomMade o p room → HasAnswerRoom o → HasAnswerRoom p
+room_kept made h = record { inside = waits_inside made; answer = omega (arith, room_length made, h.answer) }
+
+pub room_still : {p q : Output ℕ} {text : List ℕ} → Puts p q text → HasAnswerRoom p → HasAnswerRoom q
+room_still {p} {q} {text} puts h =
+    record { inside = put_within _ _ _ puts.held h.inside; answer = omega (arith, h.answer, ap (λ (b : Buffer). length b.bytes) puts.held, (kept (held p) text).long) }
+
+-- one line more, and the rest of a line passed over
+pub answered_start : (v : Option (List ℕ)) (b : Buffer) (before s : List ℕ) → AnsweredUpTo v b before s v b before s
+answered_start v b before s = record { texts = []; written = []; answers = λ behind rest answers. answers; waits = append-nil (take b.next b.bytes); taken = Appends-nil v }
+
+module _ (v : Option (List ℕ)) (b : Buffer) (before s : List ℕ) (w : Option (List ℕ)) (c : Buffer) (passed left : List ℕ) (l : AnsweredUpTo v b before s w c passed left) where
+  pub answered_line : (n : ℕ) (z : Option (List ℕ)) (d : Buffer) → place_of 10 left ≡ Some n → LineAnswered w c (passed ++ take n left) z d
+      → AnsweredUpTo v b before s z d [] (drop (n + 1) left)
+  answered_line n z d found a = record {
+    texts = l.texts ++ (a.text ++ (10 ∷ []));
+    written = l.written ++ a.written;
+    answers = λ behind rest answers.
+        let first = subst (λ (lines : List (List ℕ)). Answers lines (a.text ++ (10 ∷ rest))) (sym (line_found passed left behind n found)) (a.text, rest, a.is_text, answers, refl) in
+        let whole : l.texts ++ (a.text ++ (10 ∷ rest)) ≡ (l.texts ++ (a.text ++ (10 ∷ []))) ++ rest =
+        ap (λ (x : List ℕ). l.texts ++ x) (sym (append_assoc a.text (10 ∷ []) rest)) ∙ sym (append_assoc l.texts (a.text ++ (10 ∷ [])) rest) in
+        subst (Answers (lines_from before (s ++ behind))) whole (l.answers behind (a.text ++ (10 ∷ rest)) first);
+    waits =
+        sym (append_assoc (take b.next b.bytes) l.texts (a.text ++ (10 ∷ [])))
+        ∙ ap (λ (x : List ℕ). x ++ (a.text ++ (10 ∷ []))) l.waits
+        ∙ append_assoc l.written (take c.next c.bytes) (a.text ++ (10 ∷ []))
+        ∙ ap (λ (x : List ℕ). l.written ++ x) a.waits
+        ∙ sym (append_assoc l.written a.written (take d.next d.bytes));
+    taken = Appends-trans v w z l.written a.written l.taken a.taken;
+  }
+
+  pub answered_passed : NoEnd left → AnsweredUpTo v b before s w c (passed ++ left) []
+  answered_passed none = record {
+    texts = l.texts;
+    written = l.written;
+    answers = λ behind rest answers. l.answers behind rest (subst (λ (lines : List (List ℕ)). Answers lines rest) (sym (no_line_found passed left behind none)) answers);
+    waits = l.waits;
+    taken = l.taken;
+  }
+
+-- the last line
+pub rest_answered : (v : Option (List ℕ)) (b : Buffer) (long : Bool) (left : List ℕ) (w z : Option (List ℕ)) (c : Buffer)
+    → ((passed : List ℕ) → Passed long passed → 0 < length (passed ++ left)) → ((passed : List ℕ) → Passed long passed → LineAnswered v b (passed ++ left) w c)
+    → Appends w z (take c.next c.bytes) → RestAnswered v b long left z
+rest_answered v b long left w z c some answered taken none passed is =
+    let a = answered passed is in (
+      a.text ++ (10 ∷ []),
+      subst (λ (lines : List (List ℕ)). Answers lines (a.text ++ (10 ∷ []))) (sym (last_line passed left none (some passed is))) (a.text, [], a.is_text, refl, refl),
+      subst (Appends v z) (sym a.waits) (Appends-trans v w z a.written (take c.next c.bytes) a.taken taken),
+    )

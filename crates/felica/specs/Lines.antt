@@ -1,0 +1,37 @@
+-- The answers to an input: a line for each of its lines.
+-- Assumes nothing.
+use Rattle.std.specs.Prelude.{ℕ, ◌^◌, ◌-◌, ◌≡◌, ◌≤◌, ◌<◌, IfSome, cond, List, [], ◌∷◌, ◌++◌, length, eqb, Option}
+use Rattle.std.specs.Io.KnownBytes.{Appends}
+use Rattle.felica_calls.specs.Fault.{fault_text}
+use Rattle.felica_calls.specs.declared.fault.Fault.TheVariants.{LineTooLong}
+use Rattle.felica.specs.Answers.{CallText}
+
+-- The lines of an input, when some bytes of the first one have gone before: each ends at a line feed, whose code is 10. What stands behind the last line feed is a line if it is not empty.
+unfoldable pub lines_from : List ℕ → List ℕ → List (List ℕ)
+lines_from before [] = last_line before
+  where
+    last_line : List ℕ → List (List ℕ)
+    last_line [] = []
+    last_line (b ∷ bs) = (b ∷ bs) ∷ []
+lines_from before (b ∷ s) = cond (eqb b 10) (before ∷ lines_from [] s) (lines_from (before ++ (b ∷ [])) s)
+
+abbrev pub lines_of : List ℕ → List (List ℕ)
+lines_of input = lines_from [] input
+
+-- bytes of the longest line
+abbrev pub max_line : ℕ
+max_line = 65535
+
+-- the text that answers a line
+pub record LineText (line text : List ℕ) : Type 0 where
+  pub call : length line ≤ max_line → CallText line text
+  pub too_long : max_line < length line → text ≡ fault_text LineTooLong
+
+-- the answers to some lines, a line feed behind each
+abbrev pub Answers : List (List ℕ) → List ℕ → Type 0
+Answers [] output = output ≡ []
+Answers (line ∷ lines) output = (text : List ℕ) × (rest : List ℕ) × LineText line text × Answers lines rest × (output ≡ text ++ (10 ∷ rest))
+
+-- Where it is known what the reader has left, and that is no longer than a machine can count, the writer takes the answers to it, and nothing else.
+abbrev pub TakesAnswers : Option (List ℕ) → Option (List ℕ) → Option (List ℕ) → Type 0
+TakesAnswers q v w = IfSome q (λ input. length input < 2 ^ 64 - 1 → (output : List ℕ) × Answers (lines_of input) output × Appends v w output)
