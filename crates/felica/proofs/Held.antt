@@ -9,12 +9,22 @@ use Rattle.felica_put.specs.declared.Output.{Output}
 use Rattle.felica_put.specs.Output.{Puts, held}
 use Rattle.felica_put.specs.Put.{Buffer}
 use Rattle.felica_put.proofs.Laws.{put_taken, put_within, kept}
+use Rattle.felica_calls.specs.Fault.{fault_text}
+use Rattle.felica_calls.specs.declared.fault.Fault.TheVariants.{LineTooLong}
 use Rattle.felica_stream.specs.Held.{RoomMade}
 use Rattle.felica_stream.proofs.Held.{room_length, waits_inside, room_made, still_waits}
-use Rattle.felica.specs.Lines.{lines_from, lines_of, LineText, Answers, TakesAnswers}
-use Rattle.felica.specs.Room.{answer_room, HasAnswerRoom}
-use Rattle.felica.specs.Held.{Passed, NoEnd, AnsweredUpTo, AllAnswered, ReadAndAnswered, ReadToEnd, at_end, too_long, AllRead, LineAnswered, RestAnswered}
+use Rattle.felica.specs.Lines.{lines_from, lines_of, max_line, LineText, Answers, TakesAnswers}
+use Rattle.felica.specs.Answers.{CallText}
+use Rattle.felica.specs.Room.{answer_room, input_size, HasAnswerRoom}
+use Rattle.felica.specs.Held.{Passed, NoEnd, AnsweredUpTo, AllAnswered, ReadAndAnswered, ReadToEnd, at_end, too_long, AllRead, LineAnswered, LastAnswered}
 use Rattle.felica.proofs.Lines.{line_found, no_line_found, last_line, no_last_line}
+
+-- the text of a line that some bytes had been passed over of, and of one that none had
+pub long_line_text : (passed line : List ℕ) → input_size ≤ length passed → LineText (passed ++ line) (fault_text LineTooLong)
+long_line_text passed line h = record { call = λ k. absurd (omega (arith, h, k, length-append passed line)); too_long = λ k. refl }
+
+pub line_text : (passed line text : List ℕ) → passed ≡ [] → length line ≤ max_line → CallText line text → LineText (passed ++ line) text
+line_text passed line text none short is = subst (λ (x : List ℕ). LineText (x ++ line) text) (sym none) (record { call = λ k. is; too_long = λ k. absurd (omega (arith, k, short)) })
 
 -- an answer put in the room that was made for it
 module _ {o p q : Output ℕ} (line text : List ℕ) (made : RoomMade o p answer_room) (room : HasAnswerRoom o) (short : length text < answer_room) (puts : Puts p q (text ++ (10 ∷ []))) where
@@ -75,13 +85,16 @@ module _ (v : Option (List ℕ)) (b : Buffer) (before s : List ℕ) (w : Option 
     taken = l.taken;
   }
 
--- the last line
-pub rest_answered : (v : Option (List ℕ)) (b : Buffer) (long : Bool) (left : List ℕ) (w z : Option (List ℕ)) (c : Buffer)
+-- the last line, if there is one
+pub no_last : (v : Option (List ℕ)) (b : Buffer) (long : Bool) (left : List ℕ) → long ≡ false → left ≡ [] → LastAnswered v b long left v b
+no_last v b long left short none end passed is =
+    let empty : passed ≡ [] = rw short at is in
+    ([], [], rw (empty, none) (rw no_last_line refl), append-nil (take b.next b.bytes), Appends-nil v)
+
+pub last_answered : (v : Option (List ℕ)) (b : Buffer) (long : Bool) (left : List ℕ) (w : Option (List ℕ)) (c : Buffer)
     → ((passed : List ℕ) → Passed long passed → 0 < length (passed ++ left)) → ((passed : List ℕ) → Passed long passed → LineAnswered v b (passed ++ left) w c)
-    → Appends w z (take c.next c.bytes) → RestAnswered v b long left z
-rest_answered v b long left w z c some answered taken none passed is =
-    let a = answered passed is in (
-      a.text ++ (10 ∷ []),
-      subst (λ (lines : List (List ℕ)). Answers lines (a.text ++ (10 ∷ []))) (sym (last_line passed left none (some passed is))) (a.text, [], a.is_text, refl, refl),
-      subst (Appends v z) (sym a.waits) (Appends-trans v w z a.written (take c.next c.bytes) a.taken taken),
-    )
+    → LastAnswered v b long left w c
+last_answered v b long left w c some answered none passed is =
+    let a = answered passed is in
+    let last = subst (λ (lines : List (List ℕ)). Answers lines (a.text ++ (10 ∷ []))) (sym (last_line passed left none (some passed is))) (a.text, [], a.is_text, refl, refl) in
+    (a.text ++ (10 ∷ []), a.written, last, a.waits, a.taken)

@@ -1,4 +1,5 @@
 pub mod Listed
 pub mod SameCall
+pub mod Length
 pub mod Lines
 pub mod Held

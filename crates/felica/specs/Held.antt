@@ -65,7 +65,8 @@ pub record LineAnswered (v : Option (List ℕ)) (b : Buffer) (line : List ℕ) (
   pub waits : take b.next b.bytes ++ (text ++ (10 ∷ [])) ≡ written ++ take c.next c.bytes
   pub taken : Appends v w written
 
--- What is left when the input has ended is answered as its last line, and all that waits is written.
-abbrev pub RestAnswered : Option (List ℕ) → Buffer → Bool → List ℕ → Option (List ℕ) → Type 0
-RestAnswered v b long left w =
-    NoEnd left → (passed : List ℕ) → Passed long passed → (rest : List ℕ) × Answers (lines_from passed left) rest × Appends v w (take b.next b.bytes ++ rest)
+-- What is left when the input has ended is answered as its last line, if there is one.
+abbrev pub LastAnswered : Option (List ℕ) → Buffer → Bool → List ℕ → Option (List ℕ) → Buffer → Type 0
+LastAnswered v b long left w c =
+    NoEnd left → (passed : List ℕ) → Passed long passed
+    → (texts : List ℕ) × (written : List ℕ) × Answers (lines_from passed left) texts × (take b.next b.bytes ++ texts ≡ written ++ take c.next c.bytes) × Appends v w written

@@ -7,7 +7,7 @@ ghost use Rattle.felica_put.specs.Output.{held};
 ghost use Rattle.felica.specs.Answers.{max_call_bytes};
 ghost use Rattle.felica.specs.Lines.{TakesAnswers};
 ghost use Rattle.felica.specs.Room.{answer_room, input_size};
-ghost use Rattle.felica.specs.Held.{bytes_in, AllAnswered, AllRead, RestAnswered};
+ghost use Rattle.felica.specs.Held.{bytes_in, AllAnswered, AllRead, LastAnswered};
 
 mod answer;
 mod input;
@@ -72,6 +72,7 @@ fn feed<R: Read, W: Write>(
     waiting: &mut Waiting,
 ) -> Result<(), Failure>
     requires started { (input.old.held ≡ 0) × (input.old.too_long ≡ false) × (waiting.old.out.len ≡ 0) }
+    ensures room { OnOk result (input.new.held < input_size) }
     ensures all { OnOk result (AllRead (R.remaining reader.old) (R.remaining reader.new) (W.contents writer.old) (W.contents writer.new) (held waiting.new.out) input.new.too_long (bytes_in input.new)) }
 {
     for _ in 0..u64::MAX {
@@ -86,17 +87,21 @@ fn feed<R: Read, W: Write>(
     Ok(())
 }
 
-// Answers what is held as the last line, if there is one, and writes what waits.
-fn finish<W: Write>(writer: &mut W, input: &mut Input, waiting: &mut Waiting) -> io::Result<()>
+// Answers what is held as the last line, if there is one.
+fn answer_last<W: Write>(
+    writer: &mut W,
+    input: &mut Input,
+    waiting: &mut Waiting,
+) -> io::Result<()>
     requires { input.old.held < input_size }
-    ensures { OnOk result (RestAnswered (W.contents writer.old) (held waiting.old.out) input.old.too_long (bytes_in input.old) (W.contents writer.new)) }
+    ensures { OnOk result (LastAnswered (W.contents writer.old) (held waiting.old.out) input.old.too_long (bytes_in input.old) (W.contents writer.new) (held waiting.new.out)) }
 {
     let end = input.held;
-    let room = &mut *input.room;
-    if end != 0 || input.too_long {
-        answer_next(writer, &room[..end], input.too_long, waiting)?;
+    if end == 0 && !input.too_long {
+        return Ok(());
     }
-    writer.write_all(waiting.out.filled())
+    let room = &mut *input.room;
+    answer_next(writer, &room[..end], input.too_long, waiting)
 }
 
 // Answers all calls.
@@ -110,7 +115,10 @@ fn answer_all<R: Read, W: Write>(
     ensures { OnOk result (TakesAnswers (R.remaining reader.old) (W.contents writer.old) (W.contents writer.new)) }
 {
     feed(reader, writer, input, waiting)?;
-    finish(writer, input, waiting).map_err(|_| Failure::Write)
+    answer_last(writer, input, waiting).map_err(|_| Failure::Write)?;
+    writer
+        .write_all(waiting.out.filled())
+        .map_err(|_| Failure::Write)
 }
 
 fn run<R: Read, W: Write>(
