@@ -1,6 +1,6 @@
 -- Lines answered one behind another, and the rest of the input kept.
 -- Assumes nothing.
-use Rattle.std.proofs.Common.{ℕ, suc, ◌+◌, ◌-◌, ◌≤◌, ◌<◌, ◌≡◌, refl, sym, ap, ◌∙◌, subst, arith, Bool, true, false, List, [], ◌∷◌, ◌++◌, append_assoc, append-nil, length, take, drop, length-append, length-take-le}
+use Rattle.std.proofs.Common.{ℕ, suc, ◌+◌, ◌-◌, ◌≤◌, ◌<◌, ◌≡◌, refl, sym, ap, ◌∙◌, subst, arith, Bool, true, false, List, [], ◌∷◌, ◌++◌, append_assoc, append-nil, length, take, drop, length-append, length-drop, drop-drop, length-take-le, ◌⊎◌, inl, inr}
 use Rattle.std.specs.Prelude.{Option, None, Some}
 use Rattle.std.specs.Io.KnownBytes.{Consumes, Appends, IsAtEnd}
 use Rattle.std.proofs.KnownBytes.{Appends-nil, Appends-trans, Consumes-nil, Consumes-trans}
@@ -16,8 +16,8 @@ use Rattle.felica_stream.proofs.Held.{room_length, waits_inside, room_made, stil
 use Rattle.felica.specs.Lines.{lines_from, lines_of, max_line, LineText, Answers, TakesAnswers}
 use Rattle.felica.specs.Answers.{CallText}
 use Rattle.felica.specs.Room.{answer_room, input_size, HasAnswerRoom}
-use Rattle.felica.specs.Held.{Passed, NoEnd, AnsweredUpTo, AllAnswered, ReadAndAnswered, ReadToEnd, at_end, too_long, AllRead, LineAnswered, LastAnswered}
-use Rattle.felica.proofs.Lines.{line_found, no_line_found, last_line, no_last_line}
+use Rattle.felica.specs.Held.{Passed, NoEnd, AnsweredUpTo, AllAnswered, LineAnswered, LastAnswered}
+use Rattle.felica.proofs.Lines.{line_found, no_line_found, last_line, no_last_line, none_in_nothing}
 
 -- the text of a line that some bytes had been passed over of, and of one that none had
 pub long_line_text : (passed line : List ℕ) → input_size ≤ length passed → LineText (passed ++ line) (fault_text LineTooLong)
@@ -57,9 +57,9 @@ pub answered_start : (v : Option (List ℕ)) (b : Buffer) (before s : List ℕ) 
 answered_start v b before s = record { texts = []; written = []; answers = λ behind rest answers. answers; waits = append-nil (take b.next b.bytes); taken = Appends-nil v }
 
 module _ (v : Option (List ℕ)) (b : Buffer) (before s : List ℕ) (w : Option (List ℕ)) (c : Buffer) (passed left : List ℕ) (l : AnsweredUpTo v b before s w c passed left) where
-  pub answered_line : (n : ℕ) (z : Option (List ℕ)) (d : Buffer) → place_of 10 left ≡ Some n → LineAnswered w c (passed ++ take n left) z d
-      → AnsweredUpTo v b before s z d [] (drop (n + 1) left)
-  answered_line n z d found a = record {
+  pub answered_line : (n : ℕ) (z : Option (List ℕ)) (d : Buffer) (next : List ℕ) → next ≡ drop (n + 1) left → place_of 10 left ≡ Some n → LineAnswered w c (passed ++ take n left) z d
+      → AnsweredUpTo v b before s z d [] next
+  answered_line n z d next is found a = subst (AnsweredUpTo v b before s z d []) (sym is) (record {
     texts = l.texts ++ (a.text ++ (10 ∷ []));
     written = l.written ++ a.written;
     answers = λ behind rest answers.
@@ -74,7 +74,7 @@ module _ (v : Option (List ℕ)) (b : Buffer) (before s : List ℕ) (w : Option 
         ∙ ap (λ (x : List ℕ). l.written ++ x) a.waits
         ∙ sym (append_assoc l.written a.written (take d.next d.bytes));
     taken = Appends-trans v w z l.written a.written l.taken a.taken;
-  }
+  })
 
   pub answered_passed : NoEnd left → AnsweredUpTo v b before s w c (passed ++ left) []
   answered_passed none = record {
@@ -84,6 +84,38 @@ module _ (v : Option (List ℕ)) (b : Buffer) (before s : List ℕ) (w : Option 
     waits = l.waits;
     taken = l.taken;
   }
+
+-- the bytes behind the lines that are answered
+pub rest_start : (s : List ℕ) → s ≡ drop (length s - length s) s
+rest_start s = let none : length s - length s ≡ 0 = omega arith in rw none refl
+
+pub rest_next : (s left next : List ℕ) (n : ℕ) → left ≡ drop (length s - length left) s → length left ≤ length s → next ≡ drop (n + 1) left → n < length left
+    → (next ≡ drop (length s - length next) s) × (length next ≤ length s)
+rest_next s left next n is inside e h =
+    let size : length next ≡ length left - (n + 1) = ap length e ∙ length-drop (n + 1) left in
+    let far : (length s - length left) + (n + 1) ≡ length s - length next = omega (arith, size, inside, h) in
+    (e ∙ ap (drop (n + 1)) is ∙ drop-drop (n + 1) (length s - length left) s ∙ ap (λ (k : ℕ). drop k s) far, omega (arith, size, inside))
+
+-- a line that is too long is passed over
+pub passed_over : (v : Option (List ℕ)) (b : Buffer) (long : Bool) (s : List ℕ) (w : Option (List ℕ)) (c : Buffer) (now : Bool) (left : List ℕ) → AllAnswered v b long s w c now left
+    → (now ≡ true) ⊎ (input_size ≤ length left) → AllAnswered v b long s w c true []
+passed_over v b long s w c now left all either = (
+  none_in_nothing,
+  λ before is.
+  let done = all.1 before is in
+  (done.0 ++ left, far done.0 done.1 either, answered_passed v b before s w c done.0 left done.2 all.0),
+)
+  where
+    far : (passed : List ℕ) → Passed now passed → (now ≡ true) ⊎ (input_size ≤ length left) → input_size ≤ length (passed ++ left)
+    far passed is (inl e) = let long : input_size ≤ length passed = rw e at is in omega (arith, long, length-append passed left)
+    far passed is (inr h) = omega (arith, h, length-append passed left)
+
+-- there is a last line where some bytes of it are held or passed over
+pub some_passed : (long : Bool) (passed left : List ℕ) → long ≡ true → Passed long passed → 0 < length (passed ++ left)
+some_passed long passed left e is = let far : input_size ≤ length passed = rw e at is in omega (arith, far, length-append passed left)
+
+pub some_held : (passed left : List ℕ) → 0 < length left → 0 < length (passed ++ left)
+some_held passed left h = omega (arith, h, length-append passed left)
 
 -- the last line, if there is one
 pub no_last : (v : Option (List ℕ)) (b : Buffer) (long : Bool) (left : List ℕ) → long ≡ false → left ≡ [] → LastAnswered v b long left v b

@@ -16,6 +16,9 @@ found s n e = go (ltb (length (bytes_before 10 s)) (length s)) refl e
     go true t is = (ltb-true _ _ t, grind (arith, is))
     go false t is = absurd (grind (arith, is))
 
+pub line_inside : (s : List ℕ) (n : ℕ) → place_of 10 s ≡ Some n → n < length s
+line_inside s n e = let at = found s n e in omega (arith, at.0, at.1)
+
 not_found : (s : List ℕ) → NoEnd s → length s ≤ length (bytes_before 10 s)
 not_found s e = go (ltb (length (bytes_before 10 s)) (length s)) refl e
   where
@@ -74,6 +77,10 @@ last (b ∷ before) h = refl
 
 pub last_line : (before s : List ℕ) → NoEnd s → 0 < length (before ++ s) → lines_from before s ≡ (before ++ s) ∷ []
 last_line before s e h = ap (lines_from before) (sym (append-nil s)) ∙ no_line_found before s [] e ∙ last (before ++ s) h
+
+pub none_in_nothing : NoEnd []
+unfolding bytes_before
+none_in_nothing = refl
 
 pub no_last_line : lines_from [] [] ≡ []
 unfolding lines_from

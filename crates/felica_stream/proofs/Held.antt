@@ -1,11 +1,11 @@
 -- What a read leaves as it was, bytes moved to the front, and the room behind what waits to be written.
 -- Assumes nothing.
-use Rattle.std.proofs.Common.{ℕ, ◌+◌, ◌-◌, ◌≤◌, ◌<◌, ◌≡◌, refl, sym, ap, ◌∙◌, Bool, true, false, cond, leb, List, ◌++◌, append-nil, length, take, drop, arith}
+use Rattle.std.proofs.Common.{ℕ, ◌+◌, ◌-◌, ◌≤◌, ◌<◌, ◌≡◌, refl, sym, ap, ◌∙◌, Bool, true, false, cond, leb, List, ◌++◌, append-nil, length, take, drop, zero-add, length-drop, take-append-drop, arith}
 use Rattle.std.proofs.Math.Nat.{sub-zero}
 use Rattle.std.proofs.Math.Seq.{paste, drop-append_seam}
 use Rattle.std.proofs.lemmas.Bool.{lt-leb, le-leb, leb-true}
 use Rattle.std.proofs.lemmas.List.{drop-take, take-append-le, length-take-le}
-use Rattle.std.proofs.lemmas.List.Edits.{paste_none}
+use Rattle.std.proofs.lemmas.List.Edits.{paste_none, take-paste}
 use Rattle.std.specs.Io.KnownBytes.{Consumes}
 use Rattle.std.specs.declared.option.Option.{Option}
 use Rattle.felica_put.specs.Put.{Buffer}
@@ -75,3 +75,21 @@ module _ {a b : Output ℕ} {room : ℕ} (e : RoomMade a b room) where
 
   pub room_made : room ≤ length a.room.now → b.len + room ≤ length b.room.now
   room_made h = omega (arith, still_is, room_length, made a.len room (length a.room.now) (leb (a.len + room) (length a.room.now)) refl h)
+
+-- the bytes between two places, moved to the front
+pub rest_moved : (s : List ℕ) (from end : ℕ) → from ≤ end → end ≤ length s → take (end - from) (moved s from end) ≡ drop from (take end s)
+unfolding moved
+rest_moved s from end h k =
+    let all : from + (end - from) ≡ end = omega arith in
+    rw (le-leb end (length s) k)
+    (ap (λ (n : ℕ). take n (paste s 0 (drop from s) (end - from))) (sym (zero-add (end - from)))
+    ∙ take-paste s 0 (drop from s) (end - from) (omega arith) (rw (length-drop from s) (omega arith))
+    ∙ sym (drop-take from (end - from) s) ∙ ap (λ (n : ℕ). drop from (take n s)) all)
+
+-- the bytes held, and those that a read brought behind them
+pub read_split : (s : List ℕ) (held more : ℕ) → held ≤ more → more ≤ length s → take more s ≡ take held s ++ drop held (take more s)
+read_split s held more h k =
+    let long : length (take more s) ≡ more = length-take-le more s k in
+    let front : take held (take more s) ≡ take held s =
+    sym (take-append-le held (take more s) (drop more s) (omega (arith, long))) ∙ ap (take held) (take-append-drop more s) in
+    sym (take-append-drop held (take more s)) ∙ ap (λ (x : List ℕ). x ++ drop held (take more s)) front
