@@ -3,4 +3,4 @@ pub mod SameCall
 pub mod Length
 pub mod Lines
 pub mod Held
-pub mod Feed
+pub mod Reading

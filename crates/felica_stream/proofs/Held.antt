@@ -85,11 +85,3 @@ rest_moved s from end h k =
     (ap (λ (n : ℕ). take n (paste s 0 (drop from s) (end - from))) (sym (zero-add (end - from)))
     ∙ take-paste s 0 (drop from s) (end - from) (omega arith) (rw (length-drop from s) (omega arith))
     ∙ sym (drop-take from (end - from) s) ∙ ap (λ (n : ℕ). drop from (take n s)) all)
-
--- the bytes held, and those that a read brought behind them
-pub read_split : (s : List ℕ) (held more : ℕ) → held ≤ more → more ≤ length s → take more s ≡ take held s ++ drop held (take more s)
-read_split s held more h k =
-    let long : length (take more s) ≡ more = length-take-le more s k in
-    let front : take held (take more s) ≡ take held s =
-    sym (take-append-le held (take more s) (drop more s) (omega (arith, long))) ∙ ap (take held) (take-append-drop more s) in
-    sym (take-append-drop held (take more s)) ∙ ap (λ (x : List ℕ). x ++ drop held (take more s)) front

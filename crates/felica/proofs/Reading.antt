@@ -1,6 +1,6 @@
 -- Piece after piece is read, and its lines are answered.
 -- Assumes nothing.
-use Rattle.std.proofs.Common.{ℕ, ◌+◌, ◌-◌, ◌≤◌, ◌<◌, ◌≡◌, refl, sym, ap, ◌∙◌, subst, arith, Bool, true, false, List, [], ◌∷◌, ◌++◌, append_assoc, append-nil, length, take, drop, length-append, length-take-le}
+use Rattle.std.proofs.Common.{ℕ, ◌+◌, ◌-◌, ◌≤◌, ◌<◌, ◌≡◌, refl, sym, ap, ◌∙◌, subst, arith, Bool, true, false, List, [], ◌∷◌, ◌++◌, append_assoc, append-nil, length, take, drop, length-append, length-drop, length-take-le}
 use Rattle.std.specs.Prelude.{Option, None, Some}
 use Rattle.std.specs.Io.KnownBytes.{Consumes, Appends, IsAtEnd}
 use Rattle.std.proofs.KnownBytes.{Appends-nil, Appends-trans, Consumes-nil, Consumes-trans}
@@ -8,7 +8,8 @@ use Rattle.felica_put.specs.declared.Output.{Output}
 use Rattle.felica_put.specs.Output.{held}
 use Rattle.felica_put.specs.Put.{Buffer}
 use Rattle.felica_stream.specs.Held.{RoomMade}
-use Rattle.felica_stream.proofs.Held.{still_waits, read_split}
+use Rattle.felica_stream.proofs.Held.{still_waits}
+use Rattle.felica_stream.proofs.Reading.{read_split}
 use Rattle.felica.specs.Lines.{lines_from, lines_of, Answers, TakesAnswers}
 use Rattle.felica.specs.Held.{Passed, NoEnd, AnsweredUpTo, AllAnswered, ReadAndAnswered, ReadToEnd, at_end, too_long, AllRead, LastAnswered}
 
@@ -80,9 +81,9 @@ read_turn q r s v w z a long before room end more c now left h k same takes done
 pub takes_answers : (q r v w z y : Option (List ℕ)) (c : Buffer) (long : Bool) (left : List ℕ) (d : Buffer) → AllRead q r v w c long left → LastAnswered w c long left z d
     → Appends z y (take d.next d.bytes) → TakesAnswers q v y
 takes_answers None r v w z y c long left d all last taken = tt
-takes_answers (Some xs) None v w z y c long left d (none, x, end) last taken = absurd x.given
-takes_answers (Some xs) (Some r) v w z y c long left d (none, x, too_long h) last taken = λ short. absurd (omega (arith, h, short, ap length x.given, length-append x.input r))
-takes_answers (Some xs) (Some r) v w z y c long left d (none, x, at_end e) last taken = λ short.
+takes_answers (Some xs) None v w z y c long left d (none, (x, end)) last taken = absurd x.given
+takes_answers (Some xs) (Some r) v w z y c long left d (none, (x, too_long h)) last taken = λ short. absurd (omega (arith, h, short, ap length x.given, length-append x.input r))
+takes_answers (Some xs) (Some r) v w z y c long left d (none, (x, at_end e)) last taken = λ short.
     let l = last none x.passed x.is_passed in
     let whole : x.input ++ [] ≡ xs = ap (λ (r : List ℕ). x.input ++ r) (sym e) ∙ sym x.given in
     let answers = x.answers [] l.0 (subst (λ (s : List ℕ). Answers (lines_from x.passed s) l.0) (sym (append-nil left)) l.2) in (
