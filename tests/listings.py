@@ -54,27 +54,30 @@ def corpus_recipes(corpus):
             yield name, bytes.fromhex(record) * int(times) + bytes.fromhex("" if behind == "-" else behind), digest
 
 
-def is_listed(attempt, holds):
-    """Whether the program ends well, with nothing on the error output, and with a listing of which that holds."""
+def digest_of(listing):
+    return hashlib.sha256(listing).hexdigest()
+
+
+def is_listed(attempt, wanted):
+    """Whether the program ends well, says nothing on the error output, and has written the listing with that digest."""
     try:
         listing, said, status = attempt()
     except (OSError, subprocess.SubprocessError):
         return False
-    return holds(listing) and not said and status == 0
+    return digest_of(listing) == wanted and not said and status == 0
 
 
 def main():
     stop_without("list_log")
     corpus = [pathlib.Path(it) for it in sys.argv[1:2]]
-    logs = [*own_logs(), *(log for it in corpus for log in corpus_logs(it))]
+    known = [*own_logs(), *(log for it in corpus for log in corpus_logs(it))]
+    logs = [(name, log, digest_of(listing.encode())) for name, log, listing in known]
+    logs += (recipe for it in corpus for recipe in corpus_recipes(it))
     results = []
-    for name, log, expected in logs:
-        holds = expected.encode().__eq__
-        results.append((name, is_listed(lambda: run("list_log", given=log), holds)))
+    for name, log, wanted in logs:
+        results.append((name, is_listed(lambda: run("list_log", given=log), wanted)))
         for size in (1, 3, 17) if len(log) < 2000 else ():
-            results.append((f"{name} in pieces of {size}", is_listed(lambda: run_in_pieces("list_log", log, size), holds)))
-    for name, log, digest in (recipe for it in corpus for recipe in corpus_recipes(it)):
-        results.append((name, is_listed(lambda: run("list_log", given=log), lambda listing: hashlib.sha256(listing).hexdigest() == digest)))
+            results.append((f"{name} in pieces of {size}", is_listed(lambda: run_in_pieces("list_log", log, size), wanted)))
     differ = [name for name, same in results if not same]
     for name in differ:
         print(f"differs: {name}")

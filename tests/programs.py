@@ -223,10 +223,13 @@ def forms_of_calls():
 
 
 def input_in_pieces():
-    """Of felica; listings.py tries logs in pieces."""
+    """Short logs are tried by listings.py."""
     calls, answers = lines(LINES)[:-1], lines(LINES.values())
-    for size in (1, 3, 17, 4096):
+    for size in (1, 3, 17):
         yield f"felica in pieces of {size}", well(answers), lambda: run_in_pieces("felica", calls, size)
+    for name in ("felica", "list_log"):
+        given, wanted = sample(name)
+        yield f"{name}, what the gate gives it in pieces of 4099", well(wanted), lambda: run_in_pieces(name, given, 4099)
 
 
 def long_lines():
