@@ -11,7 +11,7 @@ import sys
 import tempfile
 import time
 
-from running import ROOT, bytes_in, ended, run, run_in_pieces, started, stop_without
+from running import ROOT, bytes_in, ended, pipe, run, run_in_pieces, started, stop_without
 
 # In which all is tried. Where programs hang it is not enough.
 MOST_SECONDS = 45
@@ -87,39 +87,39 @@ def talk(name, parts):
 
 def run_unread(name, *words):
     """With arguments, and an input of five bytes: how the program ends, and how many of the five are left."""
-    reading, writing = os.pipe()
-    with os.fdopen(reading):
-        with os.fdopen(writing, "wb") as given:
-            given.write(b"F 02\n")
+    reading, writing = pipe()
+    with reading, writing:
+        writing.write(b"F 02\n")
+        writing.close()
         return *run(name, *words, stdin=reading), bytes_in(reading)
 
 
 def run_dry(name, given):
     """With an input that fails behind what is given, a pipe that does not block."""
-    reading, writing = os.pipe()
-    with os.fdopen(reading), os.fdopen(writing):
-        os.set_blocking(reading, False)
-        os.write(writing, given)
+    reading, writing = pipe()
+    with reading, writing:
+        os.set_blocking(reading.fileno(), False)
+        writing.write(given)
         return run(name, stdin=reading)
 
 
 def run_stalled(name):
     """With an output that fails when it is full, a pipe that does not block and that nobody reads: whether it has the front of the answers, and how the program ends."""
     given, answers = sample(name)
-    reading, writing = os.pipe()
-    with os.fdopen(reading, "rb") as taken:
-        with os.fdopen(writing):
-            os.set_blocking(writing, False)
-            _, said, status = run(name, given=given, stdout=writing)
-        front = taken.read()
-    return len(front) > 0 and answers.startswith(front), said, status
+    reading, writing = pipe()
+    with reading, writing:
+        os.set_blocking(writing.fileno(), False)
+        _, said, status = run(name, given=given, stdout=writing)
+        writing.close()
+        front = reading.read()
+        return len(front) > 0 and answers.startswith(front), said, status
 
 
 def run_unheard(name):
     """With an output whose reader is gone."""
-    reading, writing = os.pipe()
-    os.close(reading)
-    with os.fdopen(writing):
+    reading, writing = pipe()
+    with reading, writing:
+        reading.close()
         return run(name, given=sample(name)[0], stdout=writing)[1:]
 
 
@@ -250,7 +250,7 @@ def long_inputs():
     record = bytes.fromhex(f"FF06{I8}010B1078") + b"\x80\0" * 119 + bytes(3)
     logs = b"\xff" + record
     for name, given, wanted in (
-        ("felica", (calls + b"\n") * 12, answers * 12),
+        ("felica", (calls.removesuffix(b"\n") + b"\n") * 12, answers * 12),
         ("list_log", logs * 50000, listed(["OK 06 1 120 1 o"] * 50000) + b"TOTAL 50000 50000 0 6000000\n"),
     ):
         yield f"{name}, {len(given)} bytes by a pipe", well(wanted), lambda: run(name, given=given)

@@ -1,6 +1,7 @@
 """Runs the programs for the tests beside this file, none for longer than SECONDS. Nothing is built: a program is crates/NAME/out/NAME, where rt ci leaves it, and rt run in crates/NAME."""
 import contextlib
 import fcntl
+import os
 import pathlib
 import struct
 import subprocess
@@ -53,8 +54,14 @@ def ended(running):
     return running.stdout.read(), running.stderr.read(), running.wait()
 
 
-def bytes_in(pipe):
-    return struct.unpack("i", fcntl.ioctl(pipe, termios.FIONREAD, b"\0" * 4))[0]
+def pipe():
+    """The end to read from, and the end to write to."""
+    reading, writing = os.pipe()
+    return os.fdopen(reading, "rb", 0), os.fdopen(writing, "wb", 0)
+
+
+def bytes_in(reading):
+    return struct.unpack("i", fcntl.ioctl(reading, termios.FIONREAD, b"\0" * 4))[0]
 
 
 def run_in_pieces(name, given, size):
