@@ -1,51 +1,20 @@
 #!/usr/bin/env python3
-"""listings.py [CORPUS]: holds the program list_log to logs whose listings are known, whole and in small pieces. Not part of the gate.
+"""listings.py [CORPUS]: holds the program list_log to logs whose listings are known, whole and in small pieces. With the logs of this file alone it is part of the gate.
 
-The logs of this file need nothing else. CORPUS, a folder that is not part of this repository (../shared/corpus beside it is taken if it is there), has more: logs/NAME.log
-with logs/NAME.w204, the listing expected of it since W-204, and full-w204.tsv, logs of a million records as recipes: name, form, record in hexadecimal, how many times, the bytes behind
-them in hexadecimal or -, and the SHA-256 of the listing. Build the program first, by rt run in its folder (crates/list_log).
+CORPUS is a folder that is not part of this repository. It has logs/NAME.log with logs/NAME.w204, the listing expected of it since W-204, and full-w204.tsv, logs of a million records
+as recipes: name, form, record in hexadecimal, how many times, the bytes behind them in hexadecimal or -, and the SHA-256 of the listing. Nothing is built: running.py says where the
+program is taken from.
 """
-import fcntl
 import hashlib
 import pathlib
 import struct
 import subprocess
 import sys
-import termios
-import threading
-import time
 
-ROOT = pathlib.Path(__file__).resolve().parent.parent
-PROGRAM = ROOT / "crates" / "list_log" / "out" / "list_log"
+from running import ROOT, run, run_in_pieces, stop_without
+
 POLLING = bytes.fromhex("06060001020000")
 READ = bytes.fromhex("10100601020304050607080109100180FF")
-
-
-def listing(log):
-    return subprocess.run([PROGRAM], input=log, stdout=subprocess.PIPE, check=True).stdout
-
-
-def wait_until_read(pipe, program):
-    deadline = time.monotonic() + 10
-    while struct.unpack("i", fcntl.ioctl(pipe, termios.FIONREAD, b"\0" * 4))[0]:
-        if program.poll() is not None or time.monotonic() > deadline:
-            sys.exit("listings: the program does not read its input")
-
-
-def listing_in_pieces(log, size):
-    """The same, where a piece of the log is written only when the one before it has been read."""
-    program = subprocess.Popen([PROGRAM], stdin=subprocess.PIPE, stdout=subprocess.PIPE)
-    lines = []
-    reader = threading.Thread(target=lambda: lines.append(program.stdout.read()))
-    reader.start()
-    for at in range(0, len(log), size):
-        program.stdin.write(log[at : at + size])
-        program.stdin.flush()
-        wait_until_read(program.stdin, program)
-    program.stdin.close()
-    reader.join()
-    program.wait()
-    return lines[0]
 
 
 def lines_of(count, text):
@@ -54,8 +23,9 @@ def lines_of(count, text):
 
 def own_logs():
     """Name, log and listing: the sample, the limit and what may stand behind it, every mark, and logs longer than any buffer of the program."""
-    sample = ROOT / "crates" / "list_log"
-    yield "sample", (sample / "stdin").read_bytes(), (sample / "stdout").read_text()
+    yield "sample", bytes.fromhex("060600FFFF000001011010060102030405060708010B10018000"), "1 OK 00 0 0 0 -\n2 NO 3 --\n3 OK 06 1 1 0 o\nTOTAL 3 2 1 1\n"
+    crate = ROOT / "crates" / "list_log"
+    yield "the log that the gate replays", (crate / "stdin").read_bytes(), (crate / "stdout").read_text()
     yield "nothing", b"", "TOTAL 0 0 0 0\n"
     full = lines_of(1000000, "NO 1 --")
     for name, behind, last in (
@@ -84,19 +54,30 @@ def corpus_recipes(corpus):
             yield name, bytes.fromhex(record) * int(times) + bytes.fromhex("" if behind == "-" else behind), digest
 
 
+def digest_of(listing):
+    return hashlib.sha256(listing).hexdigest()
+
+
+def is_listed(attempt, wanted):
+    """Whether the program ends well, says nothing on the error output, and has written the listing with that digest."""
+    try:
+        listing, said, status = attempt()
+    except (OSError, subprocess.SubprocessError):
+        return False
+    return digest_of(listing) == wanted and not said and status == 0
+
+
 def main():
-    corpus = pathlib.Path(sys.argv[1]) if len(sys.argv) > 1 else ROOT.parent / "shared" / "corpus"
-    logs, recipes = list(own_logs()), []
-    if len(sys.argv) > 1 or corpus.is_dir():
-        logs += corpus_logs(corpus)
-        recipes = corpus_recipes(corpus)
+    stop_without("list_log")
+    corpus = [pathlib.Path(it) for it in sys.argv[1:2]]
+    known = [*own_logs(), *(log for it in corpus for log in corpus_logs(it))]
+    logs = [(name, log, digest_of(listing.encode())) for name, log, listing in known]
+    logs += (recipe for it in corpus for recipe in corpus_recipes(it))
     results = []
-    for name, log, expected in logs:
-        results.append((name, listing(log) == expected.encode()))
-        if len(log) < 2000:
-            results += [(f"{name} in pieces of {size}", listing_in_pieces(log, size) == expected.encode()) for size in (1, 3, 17)]
-    for name, log, digest in recipes:
-        results.append((name, hashlib.sha256(listing(log)).hexdigest() == digest))
+    for name, log, wanted in logs:
+        results.append((name, is_listed(lambda: run("list_log", given=log), wanted)))
+        for size in (1, 3, 17) if len(log) < 2000 else ():
+            results.append((f"{name} in pieces of {size}", is_listed(lambda: run_in_pieces("list_log", log, size), wanted)))
     differ = [name for name, same in results if not same]
     for name in differ:
         print(f"differs: {name}")
