@@ -22,12 +22,12 @@ use Rattle.felica_command.specs.Places.{ElementsInside, Inside, PayloadInside, S
 abbrev pub Leaves : ℕ → List ℕ → List ℕ → Type 0
 Leaves n l r = (r ≡ drop n l) × (n ≤ length l)
 
-leaves_then : (a b : ℕ) (l m r : List ℕ) → Leaves a l m → Leaves b m r → Leaves (a + b) l r
+pub leaves_then : (a b : ℕ) (l m r : List ℕ) → Leaves a l m → Leaves b m r → Leaves (a + b) l r
 leaves_then a b l m r (e, p) (f, q) =
     let k : length m ≡ length (drop a l) = ap length e in
     (f ∙ ap (drop b) e ∙ drop-drop b a l, omega (arith, simp length-drop at k))
 
-bytes_leave : (n ground : ℕ) (l v r : List ℕ) → read_bytes n ground l ≡ taken v r → Leaves n l r × (length v ≡ n)
+pub bytes_leave : (n ground : ℕ) (l v r : List ℕ) → read_bytes n ground l ≡ taken v r → Leaves n l r × (length v ≡ n)
 bytes_leave n ground l v r h =
     let fits : n ≤ length l = ltb-false _ _ (refuse_if_passed _ ground (taken (take n l) (drop n l)) h) in
     let is = refuse_if_taken _ ground (taken (take n l) (drop n l)) h in
@@ -46,7 +46,7 @@ selector_leaves type_byte (b ∷ l) v r h = (sym (taken_rest (refuse_if_taken (l
 selector_leaves any_byte [] v r h = absurd (none_taken h)
 selector_leaves any_byte (b ∷ l) v r h = (sym (taken_rest h), omega arith)
 
-count_leaves : (missing outside least greatest : ℕ) (l : List ℕ) (n : ℕ) (r : List ℕ) → read_count missing outside least greatest l ≡ taken n r → Leaves 1 l r
+pub count_leaves : (missing outside least greatest : ℕ) (l : List ℕ) (n : ℕ) (r : List ℕ) → read_count missing outside least greatest l ≡ taken n r → Leaves 1 l r
 unfolding read_count
 count_leaves missing outside least greatest [] n r h = absurd (none_taken h)
 count_leaves missing outside least greatest (b ∷ l) n r h = (sym (taken_rest (refuse_if_taken _ outside (taken b l) h)), omega arith)
@@ -56,7 +56,7 @@ unfolding words_of
 words_of_length zero s = refl
 words_of_length (suc n) s = ap suc (words_of_length n (drop 2 s))
 
-words_leave : (n : ℕ) (l v r : List ℕ) → read_words n l ≡ taken v r → Leaves (2 * n) l r × (length v ≡ n)
+pub words_leave : (n : ℕ) (l v r : List ℕ) → read_words n l ≡ taken v r → Leaves (2 * n) l r × (length v ≡ n)
 unfolding read_words
 words_leave n l v r h =
     let fits : 2 * n ≤ length l = ltb-false _ _ (refuse_if_passed _ 13 (taken (words_of n l) (drop (2 * n) l)) h) in
