@@ -9,7 +9,7 @@ use Rattle.felica_command.specs.Meaning.{no_part, codes_at, formed_at, elements_
 use Rattle.felica_command.specs.Places.{Places, read_places}
 use Rattle.felica_command.specs.declared.command.Part.{Part}
 
--- the parts of the payload s at these places are those of c, and so many of its elements have the long form
+-- the parts of the payload s at these places are those of c, and `long` of its elements have the long form
 pub record PartsAre (s : List ℕ) (q : Places) (c : Command) (long : ℕ) : Type 0 where
   pub first : codes_at s q.first ≡ c.first
   pub second : codes_at s q.second ≡ c.second
@@ -20,11 +20,12 @@ pub record PartsAre (s : List ℕ) (q : Places) (c : Command) (long : ℕ) : Typ
   pub block_data : bytes_at s q.block_data ≡ c.block_data
   pub issue_package : bytes_at s q.issue_package ≡ c.issue_package
 
--- where the payload s, whose body begins at `at`, is accepted, its command has what stands at the places
+-- Where the payload s, whose body begins at `at`, gives a command, the places that its layout settles are those of the command's parts: what a layout lacks is
+-- no part, and empty in the command.
 abbrev pub Hold : List ℕ → ℕ → Reading → Type 0
 Hold s at reading = (c : Command) (long : ℕ) → reading ≡ gives c long → PartsAre s (read_places at s (gives c long)) c long
 
--- of a plain payload, of a secure one, and of a frame, whose places count from behind its length byte
+-- It is so of a plain payload, of a secure one, and of a frame, whose places count from behind its length byte.
 abbrev pub PlacesHold : Type 0
 PlacesHold =
     ((s : List ℕ) → Hold s 1 (read_payload s)) × ((code : ℕ) (s : List ℕ) → Hold s 0 (read_secure code s))
