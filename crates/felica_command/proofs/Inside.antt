@@ -3,11 +3,11 @@
 use Rattle.std.proofs.Common.{ℕ, zero, suc, ◌+◌, ◌*◌, ◌≤◌, arith, ◌≡◌, refl, sym, ap, ◌∙◌, subst, Bool, true, false, cond, List, [], ◌∷◌, map, length, get_or, take, drop, length-drop, drop-drop, length-take-le, ltb, ltb-false}
 use Rattle.std.proofs.lemmas.List.{length-map}
 use Rattle.felica_format.specs.Basic.{Step, taken, refuse, bind, refuse_if}
-use Rattle.felica_format.specs.Command.{Element, Formed, EndFields}
+use Rattle.felica_format.specs.Command.{Element, Formed, EndFields, long_count}
 use Rattle.felica_format.specs.Layout.{Selector, no_selector, type_byte, any_byte, Codes, no_codes, ◌to◌, Ending, bytes, word, words, reserved, polling, parameter}
 use Rattle.felica_format.specs.Layout.{Behind, nothing, ignored_bytes, a_package, Layout, layout_of, class_of}
 use Rattle.felica_format.specs.Read.{Counted, read_bytes, read_idm, read_selector, read_count, words_of, read_words, read_codes, read_short, read_long, read_element, read_each}
-use Rattle.felica_format.specs.Read.{read_elements, read_data, size_of, read_values, too_long, read_ending, read_package, read_body, answer_of}
+use Rattle.felica_format.specs.Read.{read_elements, read_data, size_of, read_values, too_long, read_ending, read_package, if_codes, read_body, answer_of}
 use Rattle.felica_format.specs.Read.{read_plain_as, read_secure_as, read_payload, read_secure}
 use Rattle.felica_format.specs.declared.classes.Class.{Class}
 use Rattle.felica_format.specs.declared.classes.Class.TheVariants.{Plain, Secure, Unknown}
@@ -15,19 +15,19 @@ use Rattle.felica_format.proofs.Steps.{taken_value, taken_rest, none_taken, refu
 use Rattle.felica_command.specs.declared.command.Part.{Part}
 use Rattle.felica_command.specs.Meaning.{formed_at, elements_at}
 use Rattle.felica_command.specs.Places.{idm_size, selector_size, codes_part, codes_size, element_size, elements_size, blocks_part, blocks_size, data_part}
-use Rattle.felica_command.specs.Places.{package_part, layout_places, no_places, read_places}
+use Rattle.felica_command.specs.Places.{package_part, first_at, second_at, blocks_at, data_at, package_at, layout_places, no_places, read_places}
 use Rattle.felica_command.specs.Places.{ElementsInside, Inside, PayloadInside, SecureInside}
 
 -- r is what stands behind the first n bytes of l, and these are there
 abbrev pub Leaves : ℕ → List ℕ → List ℕ → Type 0
 Leaves n l r = (r ≡ drop n l) × (n ≤ length l)
 
-leaves_then : (a b : ℕ) (l m r : List ℕ) → Leaves a l m → Leaves b m r → Leaves (a + b) l r
+pub leaves_then : (a b : ℕ) (l m r : List ℕ) → Leaves a l m → Leaves b m r → Leaves (a + b) l r
 leaves_then a b l m r (e, p) (f, q) =
     let k : length m ≡ length (drop a l) = ap length e in
     (f ∙ ap (drop b) e ∙ drop-drop b a l, omega (arith, simp length-drop at k))
 
-bytes_leave : (n ground : ℕ) (l v r : List ℕ) → read_bytes n ground l ≡ taken v r → Leaves n l r × (length v ≡ n)
+pub bytes_leave : (n ground : ℕ) (l v r : List ℕ) → read_bytes n ground l ≡ taken v r → Leaves n l r × (length v ≡ n)
 bytes_leave n ground l v r h =
     let fits : n ≤ length l = ltb-false _ _ (refuse_if_passed _ ground (taken (take n l) (drop n l)) h) in
     let is = refuse_if_taken _ ground (taken (take n l) (drop n l)) h in
@@ -46,7 +46,7 @@ selector_leaves type_byte (b ∷ l) v r h = (sym (taken_rest (refuse_if_taken (l
 selector_leaves any_byte [] v r h = absurd (none_taken h)
 selector_leaves any_byte (b ∷ l) v r h = (sym (taken_rest h), omega arith)
 
-count_leaves : (missing outside least greatest : ℕ) (l : List ℕ) (n : ℕ) (r : List ℕ) → read_count missing outside least greatest l ≡ taken n r → Leaves 1 l r
+pub count_leaves : (missing outside least greatest : ℕ) (l : List ℕ) (n : ℕ) (r : List ℕ) → read_count missing outside least greatest l ≡ taken n r → Leaves 1 l r
 unfolding read_count
 count_leaves missing outside least greatest [] n r h = absurd (none_taken h)
 count_leaves missing outside least greatest (b ∷ l) n r h = (sym (taken_rest (refuse_if_taken _ outside (taken b l) h)), omega arith)
@@ -56,7 +56,7 @@ unfolding words_of
 words_of_length zero s = refl
 words_of_length (suc n) s = ap suc (words_of_length n (drop 2 s))
 
-words_leave : (n : ℕ) (l v r : List ℕ) → read_words n l ≡ taken v r → Leaves (2 * n) l r × (length v ≡ n)
+pub words_leave : (n : ℕ) (l v r : List ℕ) → read_words n l ≡ taken v r → Leaves (2 * n) l r × (length v ≡ n)
 unfolding read_words
 words_leave n l v r h =
     let fits : 2 * n ≤ length l = ltb-false _ _ (refuse_if_passed _ 13 (taken (words_of n l) (drop (2 * n) l)) h) in
@@ -210,10 +210,37 @@ pub took : {A B X : Type 0} (m : Step A) (next : A → List ℕ → Step B) {b :
     → ((a : A) (t : List ℕ) → m ≡ taken a t → next a t ≡ taken b r → X) → X
 took m next h go = let q = bind_taken m next h in go q.0 q.1 q.2 q.3
 
-body_inside : (code : ℕ) (l : Layout) (at : ℕ) (s body : List ℕ) (c : Counted) (rest : List ℕ) → Leaves at s body → read_body code l body ≡ taken c rest
-    → (c.command.code ≡ code) × Inside s (layout_places l at s c.command)
-unfolding read_body layout_places
-body_inside code l at s body c rest here h =
+-- what the steps of a body took, and where each part of its layout begins in the payload s
+pub record Walked (code : ℕ) (l : Layout) (at : ℕ) (s : List ℕ) (c : Counted) : Type 0 where
+  pub its_code : c.command.code ≡ code
+  pub blocks : List Formed
+  pub are_numbers : c.command.numbers ≡ map (λ (e : Element). e.number) (map (λ (f : Formed). f.element) blocks)
+  pub are_places : c.command.places ≡ map (λ (e : Element). e.place) (map (λ (f : Formed). f.element) blocks)
+  pub are_modes : c.command.modes ≡ map (λ (e : Element). e.mode) (map (λ (f : Formed). f.element) blocks)
+  pub are_long : c.long ≡ long_count blocks
+  pub from_first : List ℕ
+  pub from_second : List ℕ
+  pub from_blocks : List ℕ
+  pub from_data : List ℕ
+  pub from_ending : List ℕ
+  pub from_package : List ℕ
+  pub left : List ℕ
+  pub first_read : read_codes 9 10 l.first from_first ≡ taken c.command.first from_second
+  pub second_read : read_codes 11 12 l.second from_second ≡ taken c.command.second from_blocks
+  pub blocks_read : read_elements (if_codes l.first 11 9) (if_codes l.first 12 10) l.elements from_blocks ≡ taken blocks from_data
+  pub data_read : read_data l.block_data (length blocks) from_data ≡ taken c.command.block_data from_ending
+  pub package_read : read_package l.behind from_package ≡ taken c.command.issue_package left
+  pub first_there : Leaves (first_at l at) s from_first
+  pub second_there : Leaves (second_at l at c.command) s from_second
+  pub blocks_there : Leaves (blocks_at l at c.command) s from_blocks
+  pub data_there : Leaves (data_at l at s c.command) s from_data
+  pub ending_there : Leaves (data_at l at s c.command + length c.command.block_data) s from_ending
+  pub package_there : Leaves (package_at l at s c.command) s from_package
+
+pub walked : (code : ℕ) (l : Layout) (at : ℕ) (s body : List ℕ) (c : Counted) (rest : List ℕ) → Leaves at s body → read_body code l body ≡ taken c rest
+    → Walked code l at s c
+unfolding read_body
+walked code l at s body c rest here h =
     took _ _ h λ idm s₁ h₁ k₁.
     took _ _ k₁ λ selector s₂ h₂ k₂.
     took _ _ k₂ λ first s₃ h₃ k₃.
@@ -233,16 +260,42 @@ body_inside code l at s body c rest here h =
     let p₅ = leaves_then _ _ s s₄ s₅ p₄ (subst (λ (k : ℕ). Leaves k s₄ s₅) size here₅) in
     let p₆ = leaves_then _ _ s s₅ s₆ p₅ (data_leaves l.block_data (length elements) s₅ block_data s₆ h₆) in
     let p₇ = leaves_then _ _ s s₆ s₇ p₆ (ending_leaves l.ending l.behind s₆ values s₇ h₇) in
-    subst (λ (x : Counted). (x.command.code ≡ code) × Inside s (layout_places l at s x.command)) (taken_value k₈) (
-      refl,
-      (
-        codes_inside l.first s _ (length first) p₃.1,
-        codes_inside l.second s _ (length second) p₄.1,
-        blocks_inside l.elements s _ (length ns) p₅.1,
-        data_inside l.block_data s _ (length block_data) p₆.1,
-        package_inside l.behind s s₇ issue_package s₈ _ h₈ p₇,
-      ),
-    )
+    subst (λ (x : Counted). Walked code l at s x) (taken_value k₈) (record {
+      its_code = refl;
+      blocks = elements;
+      are_numbers = refl;
+      are_places = refl;
+      are_modes = refl;
+      are_long = refl;
+      from_first = s₂;
+      from_second = s₃;
+      from_blocks = s₄;
+      from_data = s₅;
+      from_ending = s₆;
+      from_package = s₇;
+      left = s₈;
+      first_read = h₃;
+      second_read = h₄;
+      blocks_read = h₅;
+      data_read = h₆;
+      package_read = h₈;
+      first_there = p₂;
+      second_there = p₃;
+      blocks_there = p₄;
+      data_there = p₅;
+      ending_there = p₆;
+      package_there = p₇;
+    })
+
+body_inside : (code : ℕ) (l : Layout) (at : ℕ) (s : List ℕ) (c : Counted) → Walked code l at s c → Inside s (layout_places l at s c.command)
+unfolding layout_places
+body_inside code l at s c w = (
+  codes_inside l.first s _ (length c.command.first) w.second_there.1,
+  codes_inside l.second s _ (length c.command.second) w.blocks_there.1,
+  blocks_inside l.elements s _ (length c.command.numbers) w.data_there.1,
+  data_inside l.block_data s _ (length c.command.block_data) w.ending_there.1,
+  package_inside l.behind s w.from_package c.command.issue_package w.left _ w.package_read w.package_there,
+)
 
 -- a part that is not there
 pub none_inside : (s : List ℕ) → Inside s no_places
@@ -252,8 +305,8 @@ none_inside s = (omega arith, omega arith, omega arith, omega arith, omega arith
 step_inside : (code at : ℕ) (s body : List ℕ) (x : Step Counted) → read_body code (layout_of code) body ≡ x → Leaves at s body
     → Inside s (read_places at s (answer_of code x))
 step_inside code at s body (taken c rest) h here =
-    let q = body_inside code (layout_of code) at s body c rest here h in
-    subst (λ (k : ℕ). Inside s (layout_places (layout_of k) at s c.command)) (sym q.0) q.1
+    let w = walked code (layout_of code) at s body c rest here h in
+    subst (λ (k : ℕ). Inside s (layout_places (layout_of k) at s c.command)) (sym w.its_code) (body_inside code (layout_of code) at s c w)
 step_inside code at s body (refuse n) h here = none_inside s
 
 plain_inside : (k : Class) (code : ℕ) (body : List ℕ) → Inside (code ∷ body) (read_places 1 (code ∷ body) (read_plain_as k code body))

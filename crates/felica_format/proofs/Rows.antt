@@ -183,6 +183,44 @@ no_package a_package pack h = absurd (true≢false (sym h))
 pub plain_package : (code : ℕ) (pack : List ℕ) → class_of code ≡ Plain → package_bytes (layout_of code).behind pack ≡ []
 plain_package code pack e = no_package (layout_of code).behind pack (plain_row (λ code l. bare_behind l.behind) plain_bare code e)
 
+-- data stand behind a block list, and a package behind fixed bytes
+fronted : ℕ → Layout → Bool
+fronted code l = (not l.block_data || l.elements) and (bare_behind l.behind || leb 1 (size_of l.ending))
+
+plain_fronted : every_row fronted plain_rows ≡ true
+unfolding every_row fronted bare_behind plain_rows ◌and◌
+plain_fronted = refl
+
+secure_fronted : every_row fronted secure_rows ≡ true
+unfolding every_row fronted bare_behind secure_rows ◌and◌
+secure_fronted = refl
+
+all_fronted : (code : ℕ) → fronted code (layout_of code) ≡ true
+unfolding fronted bare_behind ◌and◌
+all_fronted code = go (class_of code) refl
+  where
+    go : (k : Class) → class_of code ≡ k → fronted code (layout_of code) ≡ true
+    go Plain e = plain_row fronted plain_fronted code e
+    go Secure e = secure_row fronted secure_fronted code e
+    go Unknown e = rw (unknown_layout code e) refl
+
+pub data_behind_blocks : (code : ℕ) → (layout_of code).block_data ≡ true → (layout_of code).elements ≡ true
+unfolding fronted
+data_behind_blocks code there = go (layout_of code).block_data (layout_of code).elements there (and_left _ _ (all_fronted code))
+  where
+    go : (d blocks : Bool) → d ≡ true → (not d || blocks) ≡ true → blocks ≡ true
+    go true blocks e h = h
+    go false blocks e h = absurd (true≢false (sym e))
+
+pub package_behind_bytes : (code : ℕ) → (layout_of code).behind ≡ a_package → 1 ≤ size_of (layout_of code).ending
+unfolding fronted bare_behind
+package_behind_bytes code there = go (layout_of code).behind (size_of (layout_of code).ending) there (and_right _ _ (all_fronted code))
+  where
+    go : (b : Behind) (n : ℕ) → b ≡ a_package → (bare_behind b || leb 1 n) ≡ true → 1 ≤ n
+    go nothing n e h = cc
+    go ignored_bytes n e h = cc
+    go a_package n e h = leb-true 1 n h
+
 -- of the secure bodies 14, 16, 44 and 46 do, and no other
 tail : ℕ → Layout → Bool
 tail code l = ignores_as l.behind (is_one_of secure_reads_and_writes code)

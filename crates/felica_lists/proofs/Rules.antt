@@ -3,14 +3,14 @@
 use Rattle.std.proofs.Common.{ℕ, ◌≤◌, List, arith, ◌≡◌, refl, sym, ap, ◌∙◌, ◌⊎◌, inl, inr, Bool, true, false, Option, Some, Err, ⊎_elim}
 use Rattle.felica_format.specs.Command.{Command}
 use Rattle.felica_format.specs.Read.{Answer as Reading, gives, refused, read_frame, read_payload, read_secure}
-use Rattle.felica_format.proofs.Steps.{not_given}
+use Rattle.felica_format.proofs.Steps.{not_given, given_is}
 use Rattle.felica_format.proofs.Grounds.{frame_refusals, payload_refusals, secure_refusals}
 use Rattle.felica_command.specs.Meaning.{ParserResult, meaning, Canonical, refusal}
 use Rattle.felica_command.specs.Places.{places_of, read_places, Account}
 use Rattle.felica_format.specs.declared.error.Reason.TheVariants.{BufferTooSmall}
 use Rattle.felica_command.proofs.OneAccount.{one_account}
-use Rattle.felica_lists.specs.Lists.{lists_of, fits, Outcome, outcome, listed_if, listed}
-use Rattle.felica_lists.specs.Rules.{RefusedUntouched, TooSmall, TwentyOneExactly, FrameTwentyOne, PayloadTwentyOne, SecureTwentyOne, OneListAccount, ParsersResult}
+use Rattle.felica_lists.specs.Lists.{lists_of, fits, fronts, Outcome, outcome, listed_if, listed}
+use Rattle.felica_lists.specs.Rules.{RefusedUntouched, TooSmall, TwentyOneExactly, FrameTwentyOne, PayloadTwentyOne, SecureTwentyOne, OneListAccount, ParsersResult, AcceptedIsParsed}
 
 pub refused_untouched : RefusedUntouched
 refused_untouched (gives c long) b n code h = go (fits (lists_of c) b) h
@@ -68,3 +68,13 @@ parsers_result s at (gives d long) b p r a account (m, q, c, i) = go (fits (list
     go false e m =
         let same = one_result s at (refused 21 (Some d.code)) r (Err (refusal BufferTooSmall (Some d.code))) (ap (λ (o : Outcome). o.answer) m) q c (refl, refl, tt) in
         inr (Some d.code, (d, long, refl, e, refl), same)
+
+pub accepted_is_parsed : AcceptedIsParsed
+accepted_is_parsed s at (refused n code) b r a c long (m, q, k, i) said = absurd (not_given (sym (ap (λ (o : Outcome). o.answer) m) ∙ said))
+accepted_is_parsed s at (gives d n) b r a c long (m, q, k, i) said = go (fits (lists_of d) b) m
+  where
+    go : (room : Bool) → outcome (meaning s r) a ≡ listed_if room d n b → Account s at (gives d n) r × (a ≡ fronts (lists_of c) b)
+    go true m =
+        let is = ap (λ (o : Outcome). o.answer) m in
+        ((is, q ∙ ap (read_places at s) is, k), ap (λ (o : Outcome). o.buffers) m ∙ ap (λ (x : Command). fronts (lists_of x) b) (given_is (sym is ∙ said)))
+    go false m = absurd (not_given (sym (ap (λ (o : Outcome). o.answer) m) ∙ said))

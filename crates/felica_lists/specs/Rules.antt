@@ -6,7 +6,7 @@ use Rattle.felica_format.specs.Read.{Answer as Reading, gives, refused, read_fra
 use Rattle.felica_command.specs.Meaning.{ParserResult, meaning, Canonical, refusal}
 use Rattle.felica_command.specs.Places.{places_of, read_places, Account, Inside}
 use Rattle.felica_format.specs.declared.error.Reason.TheVariants.{BufferTooSmall}
-use Rattle.felica_lists.specs.Lists.{Buffers, lists_of, fits, outcome, listed}
+use Rattle.felica_lists.specs.Lists.{Buffers, lists_of, fits, fronts, outcome, listed}
 
 -- "No lent buffer is touched" by a refusal.
 abbrev pub RefusedUntouched : Type 0
@@ -44,3 +44,8 @@ OneListAccount = (s : List ℕ) (at : ℕ) (reading : Reading) (b : Buffers) (r 
 abbrev pub ParsersResult : Type 0
 ParsersResult = (s : List ℕ) (at : ℕ) (reading : Reading) (b : Buffers) (p r : ParserResult) (a : Buffers)
     → Account s at reading p → ListAccount s at reading b r a → (r ≡ p) ⊎ ((code : Option ℕ) × TooSmall reading b code × (r ≡ Err (refusal BufferTooSmall code)))
+
+-- A result that is a command meets the parser's contract, and the buffers hold the command's lists in front.
+abbrev pub AcceptedIsParsed : Type 0
+AcceptedIsParsed = (s : List ℕ) (at : ℕ) (reading : Reading) (b : Buffers) (r : ParserResult) (a : Buffers) (c : Command) (long : ℕ)
+    → ListAccount s at reading b r a → meaning s r ≡ gives c long → Account s at reading r × (a ≡ fronts (lists_of c) b)

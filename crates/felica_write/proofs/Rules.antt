@@ -27,7 +27,7 @@ use Rattle.felica_write.specs.Rules.{WriterAccount, FrameParsed, PayloadParsed, 
 use Rattle.felica_write.specs.Rules.{TwentyOneExactly, TwentyTwoExactly, BehindKept, WrittenFrameRead, WrittenPayloadRead, ShortestFrame}
 use Rattle.felica_write.specs.Rules.{TwoRefusals, FrameTwentyOne, PayloadTwentyOne, UnwritableUnread}
 use Rattle.felica_write.specs.Rules.{ShortestPayload, FramesReadAreChoices, PayloadsReadAreChoices, TwoFramesRead, TwoPayloadsRead, NumberAlone}
-use Rattle.felica_write.specs.Rules.{FrameLongTold, PayloadLongTold}
+use Rattle.felica_write.specs.Rules.{FrameLongTold, PayloadLongTold, ReadIsWritable, OnlyTwentyOne, ReadTwentyOne}
 
 -- a result is settled by what it says
 refusal_same : {a b : Reason} {c d : Option ℕ} → a ≡ b → c ≡ d → refused_for a c ≡ refused_for b d
@@ -167,6 +167,41 @@ unwritable_unread c b r a e said s p small =
       λ parsed given. neither.0 (s, frame_gives c s p small parsed given),
       λ code parsed given. neither.1 (code, s, payload_gives c code s p small parsed given),
     )
+
+-- a refusal carries the code handed in
+with_code : (c : Command) (b : List ℕ) (r : Written) (a : List ℕ) (n : ℕ) (k : Option ℕ) → WriterAccount c b r a → meaning r ≡ refused n k
+    → meaning r ≡ refused n (Some c.code)
+with_code c b r a n k e said = said ∙ ap (refused n) (two_refusals c b r a n k e said).0
+
+pub read_is_writable : ReadIsWritable
+read_is_writable c s p b r a k small e = (
+  λ parsed given said. (unwritable_unread c b r a e (with_code c b r a 22 k e said) s p small).0 parsed given,
+  λ code parsed given said. (unwritable_unread c b r a e (with_code c b r a 22 k e said) s p small).1 code parsed given,
+)
+
+only_twenty_one : (c : Command) (s b : List ℕ) (r : Written) (a : List ℕ) → written c ≡ Some s → WriterAccount c b r a
+    → ((k : Option ℕ) → meaning r ≡ refused 22 k → ⊥) → OnlyTwentyOne c s b r
+only_twenty_one c s b r a w e never n k = (λ said. there said (two_refusals c b r a n k e said), λ (is, code, small). rw (is, code) (exactly.1 small))
+  where
+    exactly : (meaning r ≡ refused 21 (Some c.code)) ↔ (length b < length s)
+    exactly = twenty_one_of c s b r a w e
+
+    number : (m : ℕ) → meaning r ≡ refused n k → n ≡ m → meaning r ≡ refused m k
+    number m said is = said ∙ ap (λ (i : ℕ). refused i k) is
+
+    there : meaning r ≡ refused n k → (k ≡ Some c.code) × ((n ≡ 21) ⊎ (n ≡ 22)) → (n ≡ 21) × (k ≡ Some c.code) × (length b < length s)
+    there said (code, inl is) = (is, code, exactly.0 (with_code c b r a 21 k e (number 21 said is)))
+    there said (code, inr is) = absurd (never k (number 22 said is))
+
+pub read_twenty_one : ReadTwentyOne
+read_twenty_one c s p b r a small e = (
+  λ parsed given.
+      only_twenty_one c (frame_of [] c) b r a (short_frame_written c (s, frame_gives c s p small parsed given)) e
+      λ k. (read_is_writable c s p b r a k small e).0 parsed given,
+  λ code parsed given.
+      only_twenty_one c (secure_of [] c) b r a (short_payload_written c (code, s, payload_gives c code s p small parsed given)) e
+      λ k. (read_is_writable c s p b r a k small e).1 code parsed given,
+)
 
 pub behind_kept : BehindKept
 behind_kept c b n a e =

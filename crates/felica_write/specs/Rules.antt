@@ -78,6 +78,22 @@ UnwritableUnread =
     (c : Command) (b : List ℕ) (r : Written) (a : List ℕ) → WriterAccount c b r a → meaning r ≡ refused 22 (Some c.code)
     → (s : List ℕ) (p : ParserResult) → Bytes s → (FrameParsed s p → ¬ FrameIs s p c) × ((code : ℕ) → PayloadParsed code s p → ¬ PayloadIs s p c)
 
+-- What the parser gave of a frame or of a secure payload is never 22 when it is handed to the writer. What the list reader gives is the parser's.
+abbrev pub ReadIsWritable : Type 0
+ReadIsWritable =
+    (c : Command) (s : List ℕ) (p : ParserResult) (b : List ℕ) (r : Written) (a : List ℕ) (k : Option ℕ) → Bytes s → WriterAccount c b r a
+    → (FrameParsed s p → FrameIs s p c → meaning r ≢ refused 22 k) × ((code : ℕ) → PayloadParsed code s p → PayloadIs s p c → meaning r ≢ refused 22 k)
+
+-- Its only refusal is 21, with its code, which comes exactly when the buffer is shorter than the shortest form.
+abbrev pub OnlyTwentyOne : Command → List ℕ → List ℕ → Written → Type 0
+OnlyTwentyOne c shortest b r = (n : ℕ) (k : Option ℕ) → (meaning r ≡ refused n k) ↔ ((n ≡ 21) × (k ≡ Some c.code) × (length b < length shortest))
+
+abbrev pub ReadTwentyOne : Type 0
+ReadTwentyOne =
+    (c : Command) (s : List ℕ) (p : ParserResult) (b : List ℕ) (r : Written) (a : List ℕ) → Bytes s → WriterAccount c b r a
+    → (FrameParsed s p → FrameIs s p c → OnlyTwentyOne c (frame_of [] c) b r)
+    × ((code : ℕ) → PayloadParsed code s p → PayloadIs s p c → OnlyTwentyOne c (secure_of [] c) b r)
+
 -- "bytes behind keep their values"
 abbrev pub BehindKept : Type 0
 BehindKept = (c : Command) (b : List ℕ) (n : ℕ) (a : List ℕ) → WriterAccount c b (Ok n) a → (n ≤ length b) × (drop n a ≡ drop n b)
