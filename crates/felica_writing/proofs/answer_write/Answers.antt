@@ -1,6 +1,6 @@
 -- `felica_writing::answer_write` meets its contract: of what is wrong with a field, its text and the name.
 -- Assumes nothing.
-use Rattle.std.proofs.Common.{le-ltb, refl}
+use Rattle.std.proofs.Common.{le-ltb}
 use Rattle.felica_put.proofs.Laws.{puts_then}
 use Rattle.felica_writing.specs.Answer.{write_answer}
 use Rattle.felica_writing.proofs.answer_write.Goals as goal
