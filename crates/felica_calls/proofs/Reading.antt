@@ -10,7 +10,7 @@ use Rattle.felica_put.specs.Put.{buffer, put}
 use Rattle.felica_put.proofs.Laws.{put_front}
 use Rattle.felica_calls.specs.Field.{is_byte}
 use Rattle.felica_calls.specs.Read.{read}
-use Rattle.felica_calls.specs.Bytes.{value_of, byte_of, bytes_of, all_digits, read_bytes}
+use Rattle.felica_calls.specs.Bytes.{value_of, byte_of, bytes_of, all_digits, has_zero_x, read_bytes}
 
 -- a digit's value is below 16
 pub value_small : (d : ℕ) → value_of (digit_of d) < 16
@@ -37,9 +37,9 @@ bytes_of_pairs (suc n) (d ∷ []) h = absurd (omega arith)
 bytes_of_pairs (suc n) (high ∷ low ∷ s) h = ap (◌∷◌ (byte_of high low)) (bytes_of_pairs n s (omega (arith, h)))
 
 -- the bytes decoded to a buffer with room for them
-pub bytes_read : (s l : List ℕ) {m : List ℕ} {n : ℕ} → (length s ≡ 0 → ⊥) → is_byte 45 s ≡ false → all_digits s ≡ true → (length s % 2 ≡ 1 → ⊥) → length s / 2 ≤ length l
+pub bytes_read : (s l : List ℕ) {m : List ℕ} {n : ℕ} → (length s ≡ 0 → ⊥) → is_byte 45 s ≡ false → has_zero_x s ≡ false → all_digits s ≡ true → (length s % 2 ≡ 1 → ⊥) → length s / 2 ≤ length l
     → buffer m n ≡ put (buffer l 0) (bytes_of s) → read (Ok (length s / 2)) m ≡ read_bytes s l
 unfolding read_bytes
-bytes_read s l some other digits even room e =
+bytes_read s l some other bare digits even room e =
     let front = ap (λ b. b.bytes) (e ∙ put_front (bytes_of s) l (omega (arith, length_bytes s))) ∙ ap (λ n. bytes_of s ++ drop n l) (length_bytes s) in
-    rw (ne_eqb _ _ some, other, digits, ne_eqb _ _ even, le-ltb _ _ room, front)
+    rw (ne_eqb _ _ some, other, bare, digits, ne_eqb _ _ even, le-ltb _ _ room, front)

@@ -1,6 +1,7 @@
 -- What a line says as a call: a name, then fields, each behind one space. The bytes of a call go to a lent buffer.
 -- Assumes nothing.
 use Rattle.std.specs.Prelude.{ℕ, cond, List, length, drop, eqb, Result, Err}
+use Rattle.std.specs.Io.BufRead.{strip_last}
 use Rattle.felica_text.specs.Text.{text}
 use Rattle.felica_calls.specs.Read.{Read, read, if_ok, read_in}
 use Rattle.felica_calls.specs.Field.{field_of, behind_field, next_field, behind_next, is_name}
@@ -20,6 +21,10 @@ Called = Read Call
 
 abbrev pub called : Result Call Fault → List ℕ → Called
 called answer buffer = read answer buffer
+
+-- a line without the CR at its end, if one stands there; 13 is its code
+unfoldable pub without_cr : List ℕ → List ℕ
+without_cr line = strip_last 13 line
 
 -- a source, and its bytes as the last field
 unfoldable pub read_asked : List ℕ → List ℕ → Read (Source × ℕ)

@@ -3,8 +3,8 @@
 use Rattle.std.specs.Prelude.{ℕ, List, ◌++◌}
 use Rattle.felica_text.specs.Text.{text}
 use Rattle.felica_calls.specs.declared.fault.Fault.{Fault}
-use Rattle.felica_calls.specs.declared.fault.Fault.TheVariants.{EmptyLine, LineTooLong, UnknownCall, MissingField, ExtraField}
-use Rattle.felica_calls.specs.declared.fault.Fault.TheVariants.{CodeSize, NoDigit as NotADigit, OddDigits, TooManyBytes, NoNumber, BufferTooLong}
+use Rattle.felica_calls.specs.declared.fault.Fault.TheVariants.{EmptyLine, LineTooLong, UnknownCall, MissingField, ExtraField, BlankInside}
+use Rattle.felica_calls.specs.declared.fault.Fault.TheVariants.{CodeSize, ZeroX, NoDigit as NotADigit, OddDigits, TooManyBytes, NoNumber, BufferTooLong}
 use Rattle.felica_calls.specs.declared.fault.Fault.TheVariants.{UnknownField, FieldTwice, MalformedValue, ValueTooLong}
 
 abbrev pub reason : Fault → List ℕ
@@ -13,7 +13,9 @@ reason LineTooLong = text "line too long"
 reason UnknownCall = text "unknown call"
 reason MissingField = text "missing field"
 reason ExtraField = text "extra field"
+reason BlankInside = text "blank inside the bytes"
 reason CodeSize = text "command code not of two digits"
+reason ZeroX = text "0x in front of the bytes"
 reason NotADigit = text "not a hexadecimal digit"
 reason OddDigits = text "odd number of hexadecimal digits"
 reason TooManyBytes = text "too many bytes"

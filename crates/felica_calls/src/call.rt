@@ -1,7 +1,7 @@
 // A line as a call: a name, then fields, each behind one space. The bytes of a call go to a lent buffer.
 ghost use Rattle.std.specs.Prelude.{◌≡◌};
 ghost use Rattle.felica_calls.specs.Read.{read};
-ghost use Rattle.felica_calls.specs.Call.{called, read_asked, read_list, read_call};
+ghost use Rattle.felica_calls.specs.Call.{called, without_cr, read_asked, read_list, read_call};
 
 use crate::bytes::{read_bytes, read_last};
 use crate::fault::Fault;
@@ -21,6 +21,14 @@ pub enum Call {
     List(Source, usize, Sizes),
     // To write a command of this code to a buffer of this size. Its fields stand behind the code.
     Write(usize, u8),
+}
+
+// The line without the CR at its end, if one stands there. It is no part of a call.
+#[tactic(auto, unfolding(crate::specs::Call::without_cr))]
+pub fn without_cr(line: &[u8]) -> &[u8]
+    ensures { result.now ≡ without_cr line.now }
+{
+    line.strip_suffix(b"\r").unwrap_or(line)
 }
 
 #[tactic(auto, unfolding(crate::specs::Call::read_call))]

@@ -46,7 +46,7 @@ pub(crate) fn behind_space(text: &[u8]) -> &[u8]
 }
 
 // The field behind a space.
-pub(crate) fn next_field(rest: &[u8]) -> &[u8]
+pub fn next_field(rest: &[u8]) -> &[u8]
     ensures { result.now ≡ next_field rest.now }
 {
     field_of(behind_space(rest))

@@ -4,11 +4,12 @@ use Rattle.std.specs.Prelude.{ℕ, zero, suc, ◌+◌, not, cond, List, length, 
 -- std has no name for the code of a character
 use Prim.Native.Char.{code}
 use Rattle.felica_text.specs.Text.{before}
-use Rattle.felica_calls.specs.Read.{◌>>=◌}
+use Rattle.felica_calls.specs.Field.{next_field}
 use Rattle.felica_calls.specs.declared.fault.Fault.{Fault}
 use Rattle.felica_calls.specs.declared.fault.Fault.TheVariants.{UnknownField, FieldTwice, MalformedValue, ValueTooLong}
 use Rattle.felica_named.specs.Names.{names, place_in}
 use Rattle.felica_named.specs.Form.{form_of_letter, well_formed, longest}
+use Rattle.felica_named.specs.declared.fault.FieldFault.{FieldFault}
 use Rattle.felica_named.specs.declared.form.Form.{Form}
 use Rattle.felica_named.specs.declared.form.Form.TheVariants.{Challenge}
 
@@ -73,20 +74,29 @@ note table field at starts =
     cond (leb (length field) (name_end field)) (Err UnknownField)
     (note_placed table field at (name_end field + 1) (place_in (take (name_end field + 1) field) table) starts)
 
+-- on with the field at this place noted, or what is wrong with it
+abbrev pub noted_at : ℕ → Result Starts Fault → (Starts → Result Starts FieldFault) → Result Starts FieldFault
+noted_at at (Ok starts) more = more starts
+noted_at at (Err fault) more = Err (record { fault = fault; at = at })
+
 -- the fields from a place on; there are no more of them than turns
-unfoldable pub note_from : ℕ → List ℕ → List ℕ → ℕ → Starts → Result Starts Fault
+unfoldable pub note_from : ℕ → List ℕ → List ℕ → ℕ → Starts → Result Starts FieldFault
 note_from zero table s at starts = Ok starts
 note_from (suc turns) table s at starts =
     cond (leb (length s) at) (Ok starts)
-    (note table (field_at s at) at starts >>= note_from turns table s (at + length (field_at s at)))
+    (noted_at at (note table (field_at s at) at starts) (note_from turns table s (at + length (field_at s at))))
 
-abbrev pub starts_noted : List ℕ → Result Starts Fault
+abbrev pub starts_noted : List ℕ → Result Starts FieldFault
 starts_noted s = note_from (length s) names s 0 no_starts
 
 -- what is wrong with them, or the fields noted
-abbrev pub noted_of : List ℕ → Result Starts Fault → Result Noted Fault
+abbrev pub noted_of : List ℕ → Result Starts FieldFault → Result Noted FieldFault
 noted_of s (Ok starts) = Ok (record { text = s; starts = starts })
-noted_of s (Err fault) = Err fault
+noted_of s (Err wrong) = Err wrong
 
-abbrev pub fields_noted : List ℕ → Result Noted Fault
+abbrev pub fields_noted : List ℕ → Result Noted FieldFault
 fields_noted s = noted_of s (starts_noted s)
+
+-- the name of the field at a place: what stands between its space and its `=`, or its end, and of that no more than the 15 bytes of the longest name
+abbrev pub name_at : List ℕ → ℕ → List ℕ
+name_at s at = take 15 (before (code "=") (next_field (drop at s)))

@@ -3,6 +3,7 @@ ghost use Rattle.std.specs.Prelude.{◌≡◌, ◌+◌, ◌<◌, ◌^◌, length
 ghost use Rattle.felica_named.specs.Notes.{noted, fields_noted, note, note_value, form_of, slot_of};
 ghost use Rattle.felica_named.specs.Named.{answer_in};
 
+use crate::fault::FieldFault;
 use crate::form::Form;
 use crate::names::{NAMES, names, place_in};
 use felica_calls::fault::Fault;
@@ -17,7 +18,7 @@ pub struct Named<'a> {
 }
 
 impl<'a> Named<'a> {
-    pub fn read(text: &'a [u8]) -> Result<Named<'a>, Fault>
+    pub fn read(text: &'a [u8]) -> Result<Named<'a>, FieldFault>
         ensures { answer_in result ≡ fields_noted text.now }
     {
         let table = names();
@@ -25,7 +26,9 @@ impl<'a> Named<'a> {
         let mut at = 0;
         // Each field begins with its space; a first one need not have it. `at` is summed up, since `starts` holds places in the text and `chunk_by` gives the fields alone.
         for field in text.chunk_by(|_, next| *next != b' ') {
-            note(table, field, at, &mut starts)?;
+            if let Err(fault) = note(table, field, at, &mut starts) {
+                return Err(FieldFault { fault, at });
+            }
             at += field.len();
         }
         Ok(Named { text, starts })

@@ -1,7 +1,7 @@
 -- The bytes before the first one that equals a given byte are the first ones, as many as the place at which it stands.
 -- Assumes nothing.
-use Rattle.std.proofs.Common.{ℕ, ltb, ◌≡◌, ◌==◌, ◌≤◌, refl, sym, ap, ◌∙◌, List, [], ◌∷◌, length, take, length-take, position, arith}
-use Rattle.std.specs.List.{position_or_len, list_any}
+use Rattle.std.proofs.Common.{ℕ, ◌≡◌, ◌==◌, ◌≤◌, refl, sym, ap, ◌∙◌, List, [], ◌∷◌, length, take, length-take, position, arith}
+use Rattle.std.specs.List.{position_or_len}
 use Rattle.std.proofs.lemmas.Bool.Decides.{nat_tests}
 use Rattle.std.proofs.lemmas.List.{take_all}
 use Rattle.std.proofs.lemmas.List.Recursion.{is_position_or_len}
@@ -26,9 +26,3 @@ module _ (b : ℕ) where
   -- all of them where no such byte stands
   pub before_all : (s : List ℕ) → length s ≤ length (before b s) → before b s ≡ s
   before_all s h = sym (take_before s) ∙ take_all (length (before b s)) s h
-
-  -- whether there is one
-  pub before_some : (s : List ℕ) → list_any (λ x. x == b) s ≡ ltb (length (before b s)) (length s)
-  unfolding before
-  before_some [] = refl
-  before_some (x ∷ xs) = grind (arith, nat_tests, before_some xs)

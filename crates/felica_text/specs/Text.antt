@@ -5,12 +5,19 @@ use Rattle.std.specs.List.{flat_map}
 -- the codes of a text's characters
 pub use Rattle.std.specs.Prelude.{codes as text}
 
--- Hexadecimal in capitals: the digit of a number below 16, and the number of a digit. 48 to 57 are the codes of 0 to 9, 65 to 70 of A to F.
+-- Hexadecimal: the digit of a number below 16, in capitals, and the number of a digit of either case. 48 to 57 are the codes of 0 to 9, 65 to 70 of A to F, 97 to 102 of a to f.
 abbrev pub digit_text : ℕ → ℕ
 digit_text n = cond (ltb n 10) (48 + n) (55 + n)
 
 abbrev pub digit_of : ℕ → Option ℕ
-digit_of d = cond (ltb d 48) None (cond (leb d 57) (Some (d - 48)) (cond (ltb d 65) None (cond (leb d 70) (Some (d - 55)) None)))
+digit_of d =
+    cond (ltb d 48) None
+    (cond (leb d 57) (Some (d - 48))
+    (cond (ltb d 65) None
+    (cond (leb d 70) (Some (d - 55))
+    (cond (ltb d 97) None
+    (cond (leb d 102) (Some (d - 87))
+    None)))))
 
 -- a byte in two digits, a two-byte number in four
 abbrev pub byte_text : ℕ → List ℕ

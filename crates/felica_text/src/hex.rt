@@ -1,4 +1,4 @@
-// Hexadecimal digits, in capitals.
+// Hexadecimal digits: put in capitals, read in either case.
 ghost use Rattle.std.specs.Prelude.{◌≡◌, ◌%◌};
 ghost use Rattle.felica_text.specs.Text.{digit_text, digit_of};
 
@@ -14,13 +14,14 @@ pub fn hex_digit(value: u8) -> u8
     }
 }
 
-// The number of a digit, if the byte is one. `char::to_digit` takes small letters too, which would have to be refused first.
+// The number of a digit, if the byte is one. `char::to_digit` gives a `u32`, which would have to be cast.
 pub fn digit_value(digit: u8) -> Option<u8>
     ensures { result ≡ digit_of digit }
 {
     match digit {
         b'0'..=b'9' => Some(digit - b'0'),
         b'A'..=b'F' => Some(digit - b'A' + 10),
+        b'a'..=b'f' => Some(digit - b'a' + 10),
         _ => None,
     }
 }

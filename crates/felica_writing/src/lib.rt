@@ -42,7 +42,11 @@ pub fn answer_write(size: usize, code: u8, text: &[u8], out: &mut Output<u8>)
     }
     match Named::read(text) {
         Ok(named) => answer_named(size, code, &named, out),
-        Err(fault) => put_fault(out, fault),
+        Err(wrong) => {
+            put_fault(out, wrong.fault);
+            out.put_all(b": ");
+            out.put_all(wrong.name(text));
+        }
     }
 }
 

@@ -4,7 +4,6 @@ use Rattle.std.proofs.Common.{◌≤◌, ◌<◌, ◌≡◌, ap, sym, refl, leng
 use Rattle.std.specs.Prelude.{Ok, Err}
 use Rattle.std.specs.Slice.Iter.{chunk_by_rest}
 use Rattle.std.proofs.lemmas.Fn.{always_returns_same}
-use Rattle.std.proofs.lemmas.Result.{err_from_is_err_and}
 use Rattle.felica_named.specs.Names.{names}
 use Rattle.felica_named.specs.Notes.{field_at, note, noted_of}
 use Rattle.felica_named.proofs.Chunks.{goes_on, chunk_field, chunk_rest}
@@ -28,20 +27,19 @@ its_field c =
     let first = (steps.2 goes_on (always_returns_same _ _ _ (λ a r f k. search (rules, tests)))).1 in
     chunk_field _ _ (some_left c) c.in-Some.field.now _ c.loop-field.invariant.left steps.0 steps.1 first
 
-pub returns-in_err-note : goal.returns-in_err-note
-returns-in_err-note c =
+pub returns-in-Err : goal.returns-in-Err
+returns-in-Err c =
     let l = c.loop-field in
-    let d = (goal.at.returns-in_err-note c).In-Some in
-    let wrong : note names (field_at c.args.text.now l.at) l.at l.starts ≡ Err c.in_err-note.field-0.0 = cc (its_field d, c.in_err-note.ensures) in
-    let p = err_from_is_err_and c.from_residual.result c.from_residual.ensures.1 in
-    rw (p.1, p.2) (sym (ap (noted_of c.args.text.now) (walk_wrong names c.args.text.now _ _ wrong (some_left d) l.invariant.walks)))
+    let d = (goal.at.returns-in-Err c).In-Some in
+    let wrong : note names (field_at c.args.text.now l.at) l.at l.starts ≡ Err c.in-Err.fault = cc (its_field d, c.in-Err.ensures) in
+    sym (ap (noted_of c.args.text.now) (walk_wrong names c.args.text.now _ _ wrong (some_left d) l.invariant.walks))
 
 pub loop-field-preserved : goal.loop-field-preserved
 loop-field-preserved c =
     let l = c.loop-field in
     let d = (goal.at.loop-field-preserved c).In-Some in
     let f = its_field d in
-    let whole : note names (field_at c.args.text.now l.at) l.at l.starts ≡ Ok c.note.new.starts = cc (f, c.in_ok-note.ensures) in
+    let whole : note names (field_at c.args.text.now l.at) l.at l.starts ≡ Ok c.note.new.starts = cc (f, c.in_default.ensures) in
     record {
       inside = rw f (field_inside c.args.text.now l.at (some_left d)).inside;
       left = chunk_rest c.args.text.now l.at c.in-Some.field.now l.invariant.left c.in-Some.ensures.steps.0;
