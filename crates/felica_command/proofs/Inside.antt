@@ -27,7 +27,7 @@ leaves_then a b l m r (e, p) (f, q) =
     let k : length m ≡ length (drop a l) = ap length e in
     (f ∙ ap (drop b) e ∙ drop-drop b a l, omega (arith, simp length-drop at k))
 
-bytes_leave : (n ground : ℕ) (l v r : List ℕ) → read_bytes n ground l ≡ taken v r → Leaves n l r × (length v ≡ n)
+pub bytes_leave : (n ground : ℕ) (l v r : List ℕ) → read_bytes n ground l ≡ taken v r → Leaves n l r × (length v ≡ n)
 bytes_leave n ground l v r h =
     let fits : n ≤ length l = ltb-false _ _ (refuse_if_passed _ ground (taken (take n l) (drop n l)) h) in
     let is = refuse_if_taken _ ground (taken (take n l) (drop n l)) h in

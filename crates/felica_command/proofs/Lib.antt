@@ -3,3 +3,4 @@ pub mod Inside
 pub mod OneAccount
 pub mod Spots
 pub mod Settled
+pub mod Few

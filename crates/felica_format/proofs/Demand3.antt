@@ -31,7 +31,7 @@ answer_gives code (taken r rest) c long e =
     (rest, λ i. taken (counted (p i) (q i)) rest)
 answer_gives code (refuse n) c long e = absurd (not_given e)
 
-plain_gives : (k : Class) (code : ℕ) (s : List ℕ) (c : Command) (long : ℕ) → read_plain_as k code s ≡ gives c long
+pub plain_gives : (k : Class) (code : ℕ) (s : List ℕ) (c : Command) (long : ℕ) → read_plain_as k code s ≡ gives c long
     → (k ≡ Plain) × (rest : List ℕ) × (read_body code (layout_of code) s ≡ taken (counted c long) rest)
 plain_gives Plain code s c long e = let a = answer_gives code (read_body code (layout_of code) s) c long e in (refl, a.0, a.1)
 plain_gives Secure code s c long e = absurd (not_given e)
@@ -49,7 +49,7 @@ frame_gives n code body c long e = go (eqb n (suc (suc (length body)))) refl e
     go false size e = absurd (not_given e)
     go true size e = let g = plain_gives (class_of code) code body c long e in (eqb-true _ _ size, g.0, g.1, g.2)
 
-secure_gives : (k : Class) (code : ℕ) (s : List ℕ) (c : Command) (long : ℕ) → read_secure_as k code s ≡ gives c long
+pub secure_gives : (k : Class) (code : ℕ) (s : List ℕ) (c : Command) (long : ℕ) → read_secure_as k code s ≡ gives c long
     → (k ≡ Secure) × (rest : List ℕ) × (read_body code (layout_of code) s ≡ taken (counted c long) rest)
 secure_gives Plain code s c long e = absurd (not_given e)
 secure_gives Secure code s c long e = let a = answer_gives code (read_body code (layout_of code) s) c long e in (refl, a.0, a.1)
