@@ -1,10 +1,8 @@
 -- How much a frame can list: no accepted frame has more than 64 codes, 255 blocks or 255 long elements, and no line of a listing is longer than the room that a step asks for.
 -- Assumes nothing.
-use Rattle.std.proofs.Common.{ℕ, suc, ◌≤◌, ◌≡◌, ◌⊎◌, inl, inr, refl, sym, ap, ◌∙◌, subst, Bool, true, false, cond, ◌||◌, List, [], ◌∷◌, map, length, get_or, length-append, arith}
-use Rattle.std.proofs.lemmas.List.{length-map}
-use Rattle.std.proofs.Math.Dec.{ltb, eqb}
+use Rattle.std.proofs.Common.{ℕ, suc, ◌≤◌, ◌≡◌, ◌⊎◌, inl, inr, refl, Bool, true, false, cond, List, [], ◌∷◌, length, get_or, length-append, arith}
+use Rattle.std.proofs.Math.Dec.{eqb}
 use Rattle.std.specs.Prelude.{Option, None, Some}
-use Rattle.std.proofs.lemmas.Bool.{ltb-false}
 use Rattle.felica_format.specs.Command.{Command}
 use Rattle.felica_format.specs.Layout.{class_of, layout_of}
 use Rattle.felica_format.specs.Read.{counted, Answer as Reading, gives, refused, read_payload, read_frame}
