@@ -16,15 +16,18 @@ use Rattle.felica_writing.specs.Answer.{write_answer}
 use Rattle.felica.specs.Source.{reading_of, payload_in, body_at}
 use Rattle.felica.specs.Lists.{list_answer}
 
--- of a call to parse, the line of the one result that the definitions allow; of one that asks how many elements were long, the line of what they count; the fields of a call to write stand in the line
-abbrev pub AnswerTo : List ℕ → Result Call Fault → List ℕ → Buffer → Buffer → Type 0
-AnswerTo line (Ok (Parse source n)) bytes before after =
+-- The text that answers a call: of one to parse, the line of the one result that the definitions allow; of one that asks how many elements were long, the line of what they count. The fields of a call to write stand in the line.
+abbrev pub AnswerText : List ℕ → Result Call Fault → List ℕ → List ℕ → Type 0
+AnswerText line (Ok (Parse source n)) bytes text =
     (p : ParserResult) × Account (payload_in source (take n bytes)) (body_at source) (reading_of source (take n bytes)) p
-    × (after ≡ put before (line_of (payload_in source (take n bytes)) p))
-AnswerTo line (Ok (Long source n)) bytes before after = after ≡ put before (long_line (reading_of source (take n bytes)))
-AnswerTo line (Ok (ListCall source n z)) bytes before after = after ≡ put before (list_answer (reading_of source (take n bytes)) z)
-AnswerTo line (Ok (Write size c)) bytes before after = after ≡ put before (write_answer size c (behind_code line))
-AnswerTo line (Err fault) bytes before after = after ≡ put before (fault_text fault)
+    × (text ≡ line_of (payload_in source (take n bytes)) p)
+AnswerText line (Ok (Long source n)) bytes text = text ≡ long_line (reading_of source (take n bytes))
+AnswerText line (Ok (ListCall source n z)) bytes text = text ≡ list_answer (reading_of source (take n bytes)) z
+AnswerText line (Ok (Write size c)) bytes text = text ≡ write_answer size c (behind_code line)
+AnswerText line (Err fault) bytes text = text ≡ fault_text fault
+
+abbrev pub AnswerTo : List ℕ → Result Call Fault → List ℕ → Buffer → Buffer → Type 0
+AnswerTo line call bytes before after = (text : List ℕ) × AnswerText line call bytes text × (after ≡ put before text)
 
 unfoldable pub Answered : List ℕ → Called → Buffer → Buffer → Type 0
 Answered line c before after = AnswerTo line c.answer c.buffer before after

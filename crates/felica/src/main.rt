@@ -6,6 +6,7 @@ ghost use Rattle.felica_put.specs.Output.{held};
 ghost use Rattle.felica_stream.specs.Held.{IsWithin};
 ghost use Rattle.felica_calls.specs.Call.{read_call};
 ghost use Rattle.felica.specs.Answers.{Answered, LineAnswered};
+ghost use Rattle.felica.specs.Room.{AnsweredWhole, max_call_bytes, answer_room, with_room};
 
 mod lists;
 mod parse;
@@ -65,14 +66,16 @@ fn answer_line(line: &[u8], bytes: &mut [u8], out: &mut Output<u8>)
     out.put(b'\n');
 }
 
-// The same, where room is made for it first. Here and below writer, input, bytes and output are lent one by one: a method of one struct could not lend a line of its input
-// and change the rest of it at once.
+// The same, where room is made for it first, so that nothing of it is left out. Here and below writer, input, bytes and output are lent one by one: a method of one struct could not
+// lend a line of its input and change the rest of it at once.
 fn answer_next<W: Write>(
     writer: &mut W,
     line: &[u8],
     bytes: &mut [u8],
     waiting: &mut Waiting,
-) -> io::Result<()> {
+) -> io::Result<()>
+    ensures whole { length bytes.old ≤ max_call_bytes → answer_room ≤ length waiting.old.out.room.now → IfOk result (λ _. AnsweredWhole line.now (read_call line.now bytes.old) (with_room waiting.old.out) (held waiting.new.out)) }
+{
     make_room(writer, &mut waiting.out, ANSWER_ROOM)?;
     answer_line(line, bytes, &mut waiting.out);
     Ok(())

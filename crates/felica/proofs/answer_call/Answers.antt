@@ -1,6 +1,6 @@
 -- `felica::answer_call` answers what the line calls for.
 -- Assumes nothing.
-use Rattle.std.proofs.Common.{◌≡◌, ℕ, List, sym, subst}
+use Rattle.std.proofs.Common.{◌≡◌, ℕ, List, refl, sym, subst}
 use Rattle.std.specs.Prelude.{Result}
 use Rattle.std.proofs.lemmas.List.{length-take-le}
 use Rattle.felica_put.specs.Put.{Buffer}
@@ -41,18 +41,18 @@ answer_list-requires c = (call_within _ _ (rw c.in-Ok-List.field-0-is at c.in-Ok
 pub returns-in-Ok-Parse-clause-answered : goal.returns-in-Ok-Parse-clause-answered
 returns-in-Ok-Parse-clause-answered c =
     let told = c.answer_parse.ensures in
-    answered c.args.line.now _ _ (rw c.in-Ok-Parse.field-0-is at c.in-Ok-Parse.ensures) (told.0, told.1, told.2.held)
+    answered c.args.line.now _ _ (rw c.in-Ok-Parse.field-0-is at c.in-Ok-Parse.ensures) (_, (told.0, told.1, refl), told.2.held)
 
 pub returns-in-Ok-Long-clause-answered : goal.returns-in-Ok-Long-clause-answered
-returns-in-Ok-Long-clause-answered c = answered c.args.line.now _ _ (rw c.in-Ok-Long.field-0-is at c.in-Ok-Long.ensures) c.answer_long.ensures.held
+returns-in-Ok-Long-clause-answered c = answered c.args.line.now _ _ (rw c.in-Ok-Long.field-0-is at c.in-Ok-Long.ensures) (_, refl, c.answer_long.ensures.held)
 
 pub returns-in-Ok-List-clause-answered : goal.returns-in-Ok-List-clause-answered
-returns-in-Ok-List-clause-answered c = answered c.args.line.now _ _ (rw c.in-Ok-List.field-0-is at c.in-Ok-List.ensures) c.answer_list.ensures.held
+returns-in-Ok-List-clause-answered c = answered c.args.line.now _ _ (rw c.in-Ok-List.field-0-is at c.in-Ok-List.ensures) (_, refl, c.answer_list.ensures.held)
 
 pub returns-in-Ok-Write-clause-answered : goal.returns-in-Ok-Write-clause-answered
 returns-in-Ok-Write-clause-answered c =
     let told = rw c.behind_code.ensures at c.answer_write.ensures in
-    answered c.args.line.now _ _ (rw c.in-Ok-Write.field-0-is at c.in-Ok-Write.ensures) told.held
+    answered c.args.line.now _ _ (rw c.in-Ok-Write.field-0-is at c.in-Ok-Write.ensures) (_, refl, told.held)
 
 pub returns-in-Err-clause-answered : goal.returns-in-Err-clause-answered
-returns-in-Err-clause-answered c = answered c.args.line.now _ _ c.in-Err.ensures c.put_fault.ensures.held
+returns-in-Err-clause-answered c = answered c.args.line.now _ _ c.in-Err.ensures (_, refl, c.put_fault.ensures.held)
