@@ -8,14 +8,14 @@ use Rattle.felica_command.specs.Meaning.{ParserResult}
 use Rattle.felica_text.specs.Text.{text}
 use Rattle.felica_calls.specs.Read.{Read, read, if_ok, read_in, ◌>>=◌}
 use Rattle.felica_calls.specs.Field.{next_field, behind_field, behind_next, field_of, is_name}
-use Rattle.felica_calls.specs.Bytes.{bytes_of, all_digits, read_bytes, read_last}
+use Rattle.felica_calls.specs.Bytes.{bytes_of, all_digits, digits_or_blanks, has_zero_x, read_bytes, read_last}
 use Rattle.felica_calls.specs.Number.{read_number}
 use Rattle.felica_calls.specs.Sizes.{read_sizes}
 use Rattle.felica_calls.specs.Source.{read_source, behind_source, read_command_code}
 use Rattle.felica_calls.specs.Write.{max_room}
 use Rattle.felica_calls.specs.Call.{read_asked, read_list, read_call, count_of}
 use Rattle.felica_calls.specs.declared.fault.Fault.{Fault}
-use Rattle.felica_calls.specs.declared.fault.Fault.TheVariants.{EmptyLine, MissingField, ExtraField, NoDigit as NotADigit, OddDigits, TooManyBytes}
+use Rattle.felica_calls.specs.declared.fault.Fault.TheVariants.{EmptyLine, MissingField, ExtraField, BlankInside, ZeroX, NoDigit as NotADigit, OddDigits, TooManyBytes}
 use Rattle.felica_calls.specs.declared.source.Source.{Source}
 use Rattle.felica_calls.specs.declared.call.Call.{Call}
 use Rattle.felica_calls.specs.declared.call.Call.TheVariants.{Parse, Long, List as ListCall, Write}
@@ -64,15 +64,19 @@ same_bytes s b c e =
     rw e
     (same_either count (eqb (length s) 0) (same_fault count MissingField b c)
     (same_either count (is_name (text "-") s) (record { answer = refl; front = refl })
+    (same_either count (has_zero_x s) (same_fault count ZeroX b c)
     (same_either count (not (all_digits s)) (same_fault count NotADigit b c)
     (same_either count (eqb (length s % 2) 1) (same_fault count OddDigits b c)
     (same_either count (ltb (length c) (length s / 2)) (same_fault count TooManyBytes b c)
-    (record { answer = refl; front = all b ∙ sym (all c) }))))))
+    (record { answer = refl; front = all b ∙ sym (all c) })))))))
 
 same_last : (s b c : List ℕ) → length b ≡ length c → Same bytes_count (read_last s b) (read_last s c)
 unfolding read_last
 same_last s b c e =
-    same_either bytes_count (ltb (length (next_field s)) (length (drop 1 s))) (same_fault bytes_count ExtraField b c) (same_bytes (drop 1 s) b c e)
+    same_either bytes_count (eqb (length (behind_next s)) 0) (same_bytes (drop 1 s) b c e)
+    (same_either bytes_count (has_zero_x (drop 1 s)) (same_fault bytes_count ZeroX b c)
+    (same_either bytes_count (digits_or_blanks (behind_next s)) (same_fault bytes_count BlankInside b c)
+    (same_fault bytes_count ExtraField b c)))
 
 abbrev asked_count : Source × ℕ → ℕ
 asked_count p = p.1

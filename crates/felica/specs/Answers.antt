@@ -6,7 +6,7 @@ use Rattle.felica_command.specs.Places.{Account}
 use Rattle.felica_command.specs.Meaning.{ParserResult}
 use Rattle.felica_calls.specs.Fault.{fault_text}
 use Rattle.felica_calls.specs.Write.{behind_code}
-use Rattle.felica_calls.specs.Call.{Called, read_call}
+use Rattle.felica_calls.specs.Call.{Called, without_cr, read_call}
 use Rattle.felica_calls.specs.declared.fault.Fault.{Fault}
 use Rattle.felica_calls.specs.declared.call.Call.{Call}
 use Rattle.felica_calls.specs.declared.call.Call.TheVariants.{Parse, Long, List as ListCall, Write}
@@ -31,10 +31,10 @@ AnswerText line (Err fault) bytes text = text ≡ fault_text fault
 abbrev pub max_call_bytes : ℕ
 max_call_bytes = 16384
 
--- what a line says as a call
+-- what a line says as a call, by what stands before a CR at its end
 abbrev pub call_of : List ℕ → Called
-call_of line = read_call line (zeros max_call_bytes)
+call_of line = read_call (without_cr line) (zeros max_call_bytes)
 
 -- the text that answers it
 abbrev pub CallText : List ℕ → List ℕ → Type 0
-CallText line text = AnswerText line (call_of line).answer (call_of line).buffer text
+CallText line text = AnswerText (without_cr line) (call_of line).answer (call_of line).buffer text

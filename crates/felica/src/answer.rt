@@ -6,7 +6,7 @@ ghost use Rattle.felica.specs.Answers.{AnswerText, CallText, max_call_bytes};
 
 use crate::lists::answer_list;
 use crate::parse::{answer_long, answer_parse};
-use felica_calls::call::{Call, read_call};
+use felica_calls::call::{Call, read_call, without_cr};
 use felica_calls::fault::put_fault;
 use felica_calls::write::behind_code;
 use felica_put::Output;
@@ -29,6 +29,6 @@ pub(crate) fn answer_line(line: &[u8], bytes: &mut [u8], out: &mut Output<u8>)
     requires { length bytes.old ≡ max_call_bytes }
     ensures { (text : List ℕ) × CallText line.now text × Puts out.old out.new (text ++ (10 ∷ [])) }
 {
-    answer_call(line, bytes, out);
+    answer_call(without_cr(line), bytes, out);
     out.put(b'\n');
 }

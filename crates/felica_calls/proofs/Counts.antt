@@ -1,4 +1,4 @@
--- A call has no more bytes than the buffer that they were written to, and lends no buffer that is too long.
+-- A call has no more bytes than the buffer that they were written to, which keeps its length, and lends no buffer that is too long.
 -- Assumes nothing.
 use Rattle.std.proofs.Common.{ℕ, ◌≤◌, ◌/◌, ◌≡◌, refl, sym, subst, arith, zero-le, Bool, true, false, cond, List, length, drop, eqb, length-append, length-drop}
 use Rattle.std.proofs.lemmas.Bool.Decides.{nat_tests}
@@ -135,3 +135,39 @@ call_fits line held =
 
 pub call_within : (line held : List ℕ) {call : Call} {m : List ℕ} → read (Ok call) m ≡ read_call line held → Fits call m
 call_within line held e = subst (Has Fits) (sym e) (call_fits line held)
+
+-- the buffer keeps its length
+abbrev Kept : {A : Type 0} → List ℕ → Read A → Type 0
+Kept held r = length r.buffer ≡ length held
+
+bytes_kept : (s held : List ℕ) → Kept held (read_bytes s held)
+unfolding read_bytes
+bytes_kept s held = grind (arith, nat_tests, length-append (bytes_of s) (drop (length s / 2) held), length_bytes s, length-drop (length s / 2) held)
+
+last_kept : (s held : List ℕ) → Kept held (read_last s held)
+unfolding read_last
+last_kept s held = grind (arith, nat_tests, bytes_kept (drop 1 s) held)
+
+then_kept : {A B : Type 0} (r : Result A Fault) (held : List ℕ) (f : A → Read B) → ((a : A) → Kept held (f a)) → Kept held (if_ok r held f)
+then_kept (Ok a) held f h = h a
+then_kept (Err fault) held f h = refl
+
+asked_kept : (s held : List ℕ) → Kept held (read_asked s held)
+unfolding read_asked
+asked_kept s held = then_kept (read_source s) held _ λ source. last_kept (behind_source source s) held
+
+list_kept : (s held : List ℕ) → Kept held (read_list s held)
+unfolding read_list
+list_kept s held =
+    then_kept (read_source s) held _ λ source.
+    then_kept (read_sizes (behind_next (behind_source source s))) held _ λ z. bytes_kept (next_field (behind_source source s)) held
+
+pub call_kept : (line held : List ℕ) → length (read_call line held).buffer ≡ length held
+unfolding read_call
+call_kept line held =
+    let rest = behind_field line in
+    either (Kept held) (eqb (length line) 0) _ _ refl λ a.
+    either (Kept held) (is_byte 76 (field_of line)) _ _ (list_kept (drop 1 rest) held) λ b.
+    either (Kept held) (is_byte 87 (field_of line)) _ _ refl λ c.
+    either (Kept held) (is_name (text "LONG") (field_of line)) _ _ (asked_kept (drop 1 rest) held) λ d.
+    asked_kept line held

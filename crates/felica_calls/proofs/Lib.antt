@@ -1,3 +1,4 @@
 pub mod Reading
 pub mod Decimal
 pub mod Counts
+pub mod Length

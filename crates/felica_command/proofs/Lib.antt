@@ -4,3 +4,4 @@ pub mod Holds
 pub mod OneAccount
 pub mod Spots
 pub mod Settled
+pub mod Few

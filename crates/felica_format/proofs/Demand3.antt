@@ -1,19 +1,19 @@
 -- Demand 3 over the definitions: the statements of specs/Demand3.antt, and those of specs/Long.antt that speak of choices of forms, each proved under its name at
 -- the end.
 -- Assumes nothing.
-use Rattle.std.proofs.Common.{ℕ, suc, ◌≤◌, ◌<◌, le_of_eq, arith, ◌≡◌, refl, sym, ap, ◌∙◌, subst, ◌⊎◌, inl, inr, ◌≢◌, Bool, true, false, cond, true≢false, List, [], ◌∷◌, ◌++◌, append-nil, append_assoc, None, Some, length, length-append, eqb, eqb-true, eq-eqb, leb-true, le-leb}
+use Rattle.std.proofs.Common.{ℕ, suc, ◌≤◌, ◌<◌, le_of_eq, arith, ◌≡◌, refl, sym, ap, ◌∙◌, subst, ◌⊎◌, inl, inr, ◌≢◌, Bool, true, false, cond, true≢false, List, [], ◌∷◌, ◌++◌, append-nil, append_assoc, None, Some, length, length-append, get_or, drop, ltb, ltb-true, ltb-false, eqb, eqb-true, eq-eqb, leb-true, le-leb}
 use Rattle.felica_format.specs.declared.classes.Class.{Class}
 use Rattle.felica_format.specs.declared.classes.Class.TheVariants.{Plain, Secure, Unknown}
 use Rattle.felica_format.specs.Basic.{Bytes, Step, taken, refuse}
-use Rattle.felica_format.specs.Command.{Command, elements_of}
+use Rattle.felica_format.specs.Command.{Command, Element, elements_of}
 use Rattle.felica_format.specs.Layout.{Layout, class_of, layout_of}
 use Rattle.felica_format.specs.Read.{Counted, counted, gives, refused, answer_of, read_plain_as, read_secure_as, read_body, read_payload, read_frame, read_secure}
-use Rattle.felica_format.specs.Write.{Forms, long_bytes, long_in, body_bytes, secure_of, frame_of}
+use Rattle.felica_format.specs.Write.{Forms, long_bytes, element_bytes, each_bytes, long_in, body_bytes, secure_of, frame_of}
 use Rattle.felica_format.specs.Writable.{body_ok, fits_class, writable, shortest, written}
 use Rattle.felica_format.specs.Demand3.{FrameGives, PayloadGives, HasFrame, HasPayload, MayFollow, Around, FramesAreChoices, PayloadsAreChoices}
 use Rattle.felica_format.specs.Demand3.{ShortFrameAccepted, ShortPayloadAccepted, OtherFramesLonger, OtherPayloadsLonger}
 use Rattle.felica_format.specs.Demand3.{ShortFrameWritten, ShortPayloadWritten, UnwritableExactly, FrameReadBack, PayloadReadBack, TwoFrames, TwoPayloads}
-use Rattle.felica_format.specs.Demand3.{OneFormFrom256}
+use Rattle.felica_format.specs.Demand3.{OneFormFrom256, IsForm, SameButForms, FramesDiffer, PayloadsDiffer}
 use Rattle.felica_format.specs.Long.{FrameLongCounted, PayloadLongCounted, PlainLongCounted}
 use Rattle.felica_format.proofs.Steps.{not_given}
 use Rattle.felica_format.proofs.Tests.{tests, and_left, and_right, and_both}
@@ -31,7 +31,7 @@ answer_gives code (taken r rest) c long e =
     (rest, λ i. taken (counted (p i) (q i)) rest)
 answer_gives code (refuse n) c long e = absurd (not_given e)
 
-plain_gives : (k : Class) (code : ℕ) (s : List ℕ) (c : Command) (long : ℕ) → read_plain_as k code s ≡ gives c long
+pub plain_gives : (k : Class) (code : ℕ) (s : List ℕ) (c : Command) (long : ℕ) → read_plain_as k code s ≡ gives c long
     → (k ≡ Plain) × (rest : List ℕ) × (read_body code (layout_of code) s ≡ taken (counted c long) rest)
 plain_gives Plain code s c long e = let a = answer_gives code (read_body code (layout_of code) s) c long e in (refl, a.0, a.1)
 plain_gives Secure code s c long e = absurd (not_given e)
@@ -49,7 +49,7 @@ frame_gives n code body c long e = go (eqb n (suc (suc (length body)))) refl e
     go false size e = absurd (not_given e)
     go true size e = let g = plain_gives (class_of code) code body c long e in (eqb-true _ _ size, g.0, g.1, g.2)
 
-secure_gives : (k : Class) (code : ℕ) (s : List ℕ) (c : Command) (long : ℕ) → read_secure_as k code s ≡ gives c long
+pub secure_gives : (k : Class) (code : ℕ) (s : List ℕ) (c : Command) (long : ℕ) → read_secure_as k code s ≡ gives c long
     → (k ≡ Secure) × (rest : List ℕ) × (read_body code (layout_of code) s ≡ taken (counted c long) rest)
 secure_gives Plain code s c long e = absurd (not_given e)
 secure_gives Secure code s c long e = let a = answer_gives code (read_body code (layout_of code) s) c long e in (refl, a.0, a.1)
@@ -361,3 +361,51 @@ plain_long_counted c (code ∷ body, small, long, e) forms =
 
 pub one_form_from_256 : OneFormFrom256
 one_form_from_256 long e h = by_form (λ (w : List ℕ). w ≡ long_bytes e) long e (λ below. absurd (omega arith)) (λ why. refl)
+
+-- an element's bytes in two choices of forms
+is_form : (long : Bool) (e : Element) → IsForm e (element_bytes long e)
+is_form long e = by_form (IsForm e) long e (λ below. inr (below, refl)) (λ why. inl refl)
+
+equal_or_below : (long other : Bool) (e : Element) → (element_bytes long e ≡ element_bytes other e) ⊎ (e.number < 256)
+equal_or_below long other e = go (ltb e.number 256) refl
+  where
+    go : (b : Bool) → ltb e.number 256 ≡ b → (element_bytes long e ≡ element_bytes other e) ⊎ (e.number < 256)
+    go true q = inr (ltb-true _ _ q)
+    go false q = let above = ltb-false _ _ q in inl (one_form_from_256 long e above ∙ sym (one_form_from_256 other e above))
+
+none_apart : (forms : Forms) → each_bytes forms [] ≡ []
+unfolding each_bytes
+none_apart forms = refl
+
+first_apart : (forms : Forms) (e : Element) (es : List Element)
+    → each_bytes forms (e ∷ es) ≡ element_bytes (get_or forms 0 false) e ++ each_bytes (drop 1 forms) es
+unfolding each_bytes
+first_apart [] e es = refl
+first_apart (long ∷ forms) e es = refl
+
+same_but_forms : (forms others : Forms) (es : List Element) → SameButForms es (each_bytes forms es) (each_bytes others es)
+same_but_forms forms others [] = (none_apart forms, none_apart others)
+same_but_forms forms others (e ∷ es) =
+    let long : Bool = get_or forms 0 false in
+    let other : Bool = get_or others 0 false in (
+      element_bytes long e,
+      element_bytes other e,
+      each_bytes (drop 1 forms) es,
+      each_bytes (drop 1 others) es,
+      first_apart forms e es,
+      first_apart others e es,
+      is_form long e,
+      is_form other e,
+      equal_or_below long other e,
+      same_but_forms (drop 1 forms) (drop 1 others) es,
+    )
+
+pub frames_differ : FramesDiffer
+frames_differ c s t gs gt =
+    let (before, after, one, two) = two_frames c s t gs gt in
+    (before, after, _, _, same_but_forms one.0 two.0 (elements_of c), one.1, two.1)
+
+pub payloads_differ : PayloadsDiffer
+payloads_differ c s t gs gt =
+    let (before, after, u, v, behind, behind', one, two) = two_payloads c s t gs gt in
+    (before, after, _, _, same_but_forms one.0 two.0 (elements_of c), u, v, behind, behind', one.1, two.1)

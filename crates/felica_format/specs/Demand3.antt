@@ -8,7 +8,7 @@ use Rattle.felica_format.specs.Basic.{Bytes, is_one_of}
 use Rattle.felica_format.specs.Command.{Command, Element, elements_of}
 use Rattle.felica_format.specs.Layout.{class_of}
 use Rattle.felica_format.specs.Read.{gives, read_frame, read_secure}
-use Rattle.felica_format.specs.Write.{Forms, long_bytes, element_bytes, each_bytes, frame_of, secure_of}
+use Rattle.felica_format.specs.Write.{Forms, short_bytes, long_bytes, element_bytes, each_bytes, frame_of, secure_of}
 use Rattle.felica_format.specs.Writable.{written}
 
 -- "A frame, or a payload with its secure code, is accepted when the layouts and checks above find no ground against it, and gives the command
@@ -99,3 +99,29 @@ TwoPayloads =
 -- An element numbered from 256 up has one form.
 abbrev pub OneFormFrom256 : Type 0
 OneFormFrom256 = (long : Bool) (e : Element) → 256 ≤ e.number → element_bytes long e ≡ long_bytes e
+
+-- the bytes of an element: the long form, or, where its number is below 256, the short one
+abbrev pub IsForm : Element → List ℕ → Type 0
+IsForm e x = (x ≡ long_bytes e) ⊎ ((e.number < 256) × (x ≡ short_bytes e))
+
+-- x and y are the elements' bytes, one element after the other. Of each element they are equal, or its number is below 256.
+abbrev pub SameButForms : List Element → List ℕ → List ℕ → Type 0
+SameButForms [] x y = (x ≡ []) × (y ≡ [])
+SameButForms (e ∷ es) x y =
+    (a : List ℕ) × (b : List ℕ) × (x₁ : List ℕ) × (y₁ : List ℕ) × (x ≡ a ++ x₁) × (y ≡ b ++ y₁) × IsForm e a × IsForm e b
+    × ((a ≡ b) ⊎ (e.number < 256)) × SameButForms es x₁ y₁
+
+-- Two accepted frames of one command differ in nothing but the length byte and the forms of elements numbered below 256.
+abbrev pub FramesDiffer : Type 0
+FramesDiffer =
+    (c : Command) (s t : List ℕ) → FrameGives s c → FrameGives t c
+    → (before : List ℕ) × (after : List ℕ) × (x : List ℕ) × (y : List ℕ) × SameButForms (elements_of c) x y
+    × (s ≡ length s ∷ before ++ (x ++ after)) × (t ≡ length t ∷ before ++ (y ++ after))
+
+-- Two accepted payloads of one command differ in nothing but these forms and the ignored tail.
+abbrev pub PayloadsDiffer : Type 0
+PayloadsDiffer =
+    (c : Command) (s t : List ℕ) → PayloadGives c.code s c → PayloadGives c.code t c
+    → (before : List ℕ) × (after : List ℕ) × (x : List ℕ) × (y : List ℕ) × SameButForms (elements_of c) x y
+    × (u : List ℕ) × (v : List ℕ) × MayFollow c.code u × MayFollow c.code v
+    × (s ≡ before ++ (x ++ (after ++ u))) × (t ≡ before ++ (y ++ (after ++ v)))

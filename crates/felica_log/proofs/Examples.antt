@@ -1,4 +1,4 @@
--- The table of specs/Examples.antt, computed.
+-- The tables of specs/Examples.antt, computed.
 -- Assumes nothing.
 use Rattle.std.proofs.Common.{refl}
 use Rattle.felica_format.specs.Basic.{◌and◌, bind, refuse_if}
@@ -8,7 +8,7 @@ use Rattle.felica_format.specs.Read.{read_elements, read_data, is_time_slots, re
 use Rattle.felica_text.specs.Text.{decimal_digits, decimal_text}
 use Rattle.felica_line.specs.Line.{mark_field, accepted_text, record_line}
 use Rattle.felica_log.specs.Listing.{front, total_line, listing_from, listing}
-use Rattle.felica_log.specs.Examples.{AllSamplesListed, samples}
+use Rattle.felica_log.specs.Examples.{AllSamplesListed, samples, AllListedUpTo, limit_samples}
 
 -- opens all that reading and listing are made of
 reading : Unit {0}
@@ -22,3 +22,7 @@ lining = tt
 pub samples_listed : AllSamplesListed samples
 unfolding samples reading lining
 samples_listed = (refl, (refl, (refl, (refl, (refl, (refl, tt))))))
+
+pub limit_samples_listed : AllListedUpTo 1 limit_samples
+unfolding limit_samples reading lining
+limit_samples_listed = (refl, (refl, (refl, tt)))

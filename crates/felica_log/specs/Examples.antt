@@ -1,11 +1,12 @@
--- Document 01's sample and other logs with their listings; computed in proofs/Examples.antt.
+-- Document 01's sample and other logs with their listings, and logs whose listing ends at a limit; computed in proofs/Examples.antt.
 -- Assumes nothing.
 use Rattle.std.specs.Prelude.{ℕ, ◌≡◌, List, [], ◌∷◌, ◌++◌}
 -- the type of text literals, for which std has no name
 use Prim.Native.String.{String}
 use Rattle.felica_format.specs.Examples.{I8}
 use Rattle.felica_text.specs.Text.{text}
-use Rattle.felica_log.specs.Listing.{line_end, listing}
+use Rattle.felica_totals.specs.Count.{no_totals}
+use Rattle.felica_log.specs.Listing.{line_end, listing_from, listing}
 
 -- a log and the lines of its listing
 pub record Sample : Type 0 where
@@ -41,4 +42,17 @@ samples =
     ∷ sample
     ((0x16 ∷ 0x16 ∷ 0x06 ∷ []) ++ (I8 ++ (0x01 ∷ 0x08 ∷ 0x10 ∷ 0x03 ∷ 0x00 ∷ 0x05 ∷ 0x00 ∷ 0x80 ∷ 0x05 ∷ 0x00 ∷ 0x05 ∷ 0x01 ∷ [])))
     ("1 OK 06 1 3 2 k" ∷ "TOTAL 1 1 0 3" ∷ [])
+    ∷ []
+
+-- the same where at most n records are read
+abbrev pub AllListedUpTo : ℕ → List Sample → Type 0
+AllListedUpTo n [] = Unit {0}
+AllListedUpTo n (s ∷ rest) = (listing_from n no_totals s.log ≡ lines_text s.lines) × AllListedUpTo n rest
+
+-- "with the line FULL if a byte follows", with a limit of one record: two records, one, one and a cut one
+unfoldable pub limit_samples : List Sample
+limit_samples =
+    sample (0x01 ∷ 0x01 ∷ 0x02 ∷ 0x02 ∷ 0x14 ∷ []) ("1 NO 3 --" ∷ "FULL" ∷ "TOTAL 1 0 1 0" ∷ [])
+    ∷ sample (0x01 ∷ 0x01 ∷ []) ("1 NO 3 --" ∷ "TOTAL 1 0 1 0" ∷ [])
+    ∷ sample (0x01 ∷ 0x01 ∷ 0x05 ∷ 0x05 ∷ []) ("1 NO 3 --" ∷ "FULL" ∷ "TOTAL 1 0 1 0" ∷ [])
     ∷ []

@@ -14,7 +14,8 @@ use Rattle.felica_format.specs.Writable.{idm_ok, selector_ok, codes_ok, same_len
 use Rattle.felica_format.specs.Demand3.{FrameGives, PayloadGives, HasFrame, HasPayload}
 use Rattle.felica_format.proofs.Demand3.{frames_are_choices, payloads_are_choices, short_frame_accepted, short_payload_accepted, other_frames_longer}
 use Rattle.felica_format.proofs.Demand3.{other_payloads_longer, short_frame_written, short_payload_written, unwritable_exactly, frame_read_back}
-use Rattle.felica_format.proofs.Demand3.{payload_read_back, two_frames, two_payloads, frame_long_counted, payload_long_counted}
+use Rattle.felica_format.proofs.Demand3.{payload_read_back, two_frames, two_payloads, frames_differ, payloads_differ}
+use Rattle.felica_format.proofs.Demand3.{frame_long_counted, payload_long_counted}
 use Rattle.felica_format.proofs.Steps.{not_given}
 use Rattle.felica_command.specs.Meaning as parser
 use Rattle.felica_format.specs.Reasons.{number_of}
@@ -27,7 +28,7 @@ use Rattle.felica_write.specs.Rules.{WriterAccount, FrameParsed, PayloadParsed, 
 use Rattle.felica_write.specs.Rules.{TwentyOneExactly, TwentyTwoExactly, BehindKept, WrittenFrameRead, WrittenPayloadRead, ShortestFrame}
 use Rattle.felica_write.specs.Rules.{TwoRefusals, FrameTwentyOne, PayloadTwentyOne, UnwritableUnread}
 use Rattle.felica_write.specs.Rules.{ShortestPayload, FramesReadAreChoices, PayloadsReadAreChoices, TwoFramesRead, TwoPayloadsRead, NumberAlone}
-use Rattle.felica_write.specs.Rules.{FrameLongTold, PayloadLongTold, ReadIsWritable, OnlyTwentyOne, ReadTwentyOne}
+use Rattle.felica_write.specs.Rules.{FramesReadDiffer, PayloadsReadDiffer, FrameLongTold, PayloadLongTold, ReadIsWritable, OnlyTwentyOne, ReadTwentyOne}
 
 -- a result is settled by what it says
 refusal_same : {a b : Reason} {c d : Option ℕ} → a ≡ b → c ≡ d → refused_for a c ≡ refused_for b d
@@ -266,6 +267,14 @@ two_frames_read c s t p q small small' parsed given parsed' given' =
 pub two_payloads_read : TwoPayloadsRead
 two_payloads_read c s t p q small small' parsed given parsed' given' =
     two_payloads c s t (payload_gives c c.code s p small parsed given) (payload_gives c c.code t q small' parsed' given')
+
+pub frames_read_differ : FramesReadDiffer
+frames_read_differ c s t p q small small' parsed given parsed' given' =
+    frames_differ c s t (frame_gives c s p small parsed given) (frame_gives c t q small' parsed' given')
+
+pub payloads_read_differ : PayloadsReadDiffer
+payloads_read_differ c s t p q small small' parsed given parsed' given' =
+    payloads_differ c s t (payload_gives c c.code s p small parsed given) (payload_gives c c.code t q small' parsed' given')
 
 -- the count that a result tells is the count that goes with its command
 long_told : (s : List ℕ) (p : ParserResult) (c : Command) (n : ℕ) → parser.meaning s p ≡ gives c n → long_of p ≡ n

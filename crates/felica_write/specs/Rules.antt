@@ -11,7 +11,7 @@ use Rattle.felica_format.specs.Layout.{class_of}
 use Rattle.felica_format.specs.Read.{gives, read_frame, read_secure}
 use Rattle.felica_format.specs.Write.{Forms, long_in, frame_of, secure_of}
 use Rattle.felica_format.specs.Writable.{written}
-use Rattle.felica_format.specs.Demand3.{HasFrame, HasPayload, FrameChoice, PayloadChoice, MayFollow, Around}
+use Rattle.felica_format.specs.Demand3.{HasFrame, HasPayload, FrameChoice, PayloadChoice, MayFollow, Around, SameButForms}
 use Rattle.felica_command.specs.Meaning as parser
 use Rattle.felica_command.specs.Places.{Account}
 use Rattle.felica_command.specs.Meaning.{ParserResult, long_of}
@@ -149,6 +149,22 @@ TwoPayloadsRead =
     → PayloadIs t q c
     → (before : List ℕ) × (after : List ℕ) × (u : List ℕ) × (v : List ℕ) × MayFollow c.code u × MayFollow c.code v
     × Around c before (after ++ u) s × Around c before (after ++ v) t
+
+-- Two frames that the parser reads as one command differ in nothing but the length byte and the forms of elements numbered below 256.
+abbrev pub FramesReadDiffer : Type 0
+FramesReadDiffer =
+    (c : Command) (s t : List ℕ) (p q : ParserResult) → Bytes s → Bytes t → FrameParsed s p → FrameIs s p c → FrameParsed t q → FrameIs t q c
+    → (before : List ℕ) × (after : List ℕ) × (x : List ℕ) × (y : List ℕ) × SameButForms (elements_of c) x y
+    × (s ≡ length s ∷ before ++ (x ++ after)) × (t ≡ length t ∷ before ++ (y ++ after))
+
+-- the same of two payloads: in nothing but these forms and the ignored tail
+abbrev pub PayloadsReadDiffer : Type 0
+PayloadsReadDiffer =
+    (c : Command) (s t : List ℕ) (p q : ParserResult) → Bytes s → Bytes t → PayloadParsed c.code s p → PayloadIs s p c → PayloadParsed c.code t q
+    → PayloadIs t q c
+    → (before : List ℕ) × (after : List ℕ) × (x : List ℕ) × (y : List ℕ) × SameButForms (elements_of c) x y
+    × (u : List ℕ) × (v : List ℕ) × MayFollow c.code u × MayFollow c.code v
+    × (s ≡ before ++ (x ++ (after ++ u))) × (t ≡ before ++ (y ++ (after ++ v)))
 
 -- "how many were long": of a choice of forms, the parser's result tells how many elements it makes long.
 abbrev pub FrameLongTold : Type 0

@@ -8,5 +8,5 @@ use Rattle.felica.proofs.answer.answer_line.Goals as goal
 
 pub returns : goal.returns
 returns c =
-    let told = c.answer_call.ensures in
+    let told = rw c.without_cr.ensures at c.answer_call.ensures in
     (told.0, answer_kept _ _ _ _ (c.requires ∙ sym (length-replicate {A = ℕ} 16384 0)) told.1, puts_then told.2 c.put.ensures)
