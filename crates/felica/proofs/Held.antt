@@ -1,9 +1,9 @@
 -- Lines answered one behind another, and the rest of the input kept.
 -- Assumes nothing.
-use Rattle.std.proofs.Common.{ℕ, suc, ◌+◌, ◌-◌, ◌≤◌, ◌<◌, ◌≡◌, refl, sym, ap, ◌∙◌, subst, arith, Bool, true, false, List, [], ◌∷◌, ◌++◌, append_assoc, append-nil, length, take, drop, length-append, length-drop, drop-drop, length-take-le, ◌⊎◌, inl, inr}
-use Rattle.std.specs.Prelude.{Option, None, Some}
-use Rattle.std.specs.Io.KnownBytes.{Consumes, Appends, IsAtEnd}
-use Rattle.std.proofs.KnownBytes.{Appends-nil, Appends-trans, Consumes-nil, Consumes-trans}
+use Rattle.std.proofs.Common.{ℕ, ◌+◌, ◌-◌, ◌≤◌, ◌<◌, ◌≡◌, refl, sym, ap, ◌∙◌, subst, arith, Bool, true, false, List, [], ◌∷◌, ◌++◌, append_assoc, append-nil, length, take, drop, length-append, length-drop, drop-drop, ◌⊎◌, inl, inr}
+use Rattle.std.specs.Prelude.{Option, Some}
+use Rattle.std.specs.Io.KnownBytes.{Appends}
+use Rattle.std.proofs.KnownBytes.{Appends-nil, Appends-trans}
 use Rattle.felica_text.specs.Text.{place_of}
 use Rattle.felica_put.specs.declared.Output.{Output}
 use Rattle.felica_put.specs.Output.{Puts, held}
@@ -13,7 +13,7 @@ use Rattle.felica_calls.specs.Fault.{fault_text}
 use Rattle.felica_calls.specs.declared.fault.Fault.TheVariants.{LineTooLong}
 use Rattle.felica_stream.specs.Held.{RoomMade}
 use Rattle.felica_stream.proofs.Held.{room_length, waits_inside, room_made, still_waits}
-use Rattle.felica.specs.Lines.{lines_from, lines_of, max_line, LineText, Answers, TakesAnswers}
+use Rattle.felica.specs.Lines.{lines_from, max_line, LineText, Answers}
 use Rattle.felica.specs.Answers.{CallText}
 use Rattle.felica.specs.Room.{answer_room, input_size, HasAnswerRoom}
 use Rattle.felica.specs.Held.{Passed, NoEnd, AnsweredUpTo, AllAnswered, LineAnswered, LastAnswered}

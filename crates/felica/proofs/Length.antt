@@ -1,13 +1,13 @@
 -- No answer is longer than its room.
 -- Assumes nothing.
-use Rattle.std.proofs.Common.{ℕ, ◌≤◌, ◌<◌, ◌≡◌, sym, ◌∙◌, List, length, length-take, length-drop, take, arith}
+use Rattle.std.proofs.Common.{ℕ, ◌≤◌, ◌<◌, ◌≡◌, List, length, length-take, length-drop, take, arith}
 use Rattle.std.proofs.Math.Nat.{min-le_right}
 use Rattle.std.proofs.lemmas.List.{length-replicate}
 use Rattle.std.specs.Prelude.{Ok, Err}
 use Rattle.felica_format.specs.Basic.{zeros}
 use Rattle.felica_command.proofs.Few.{FewIn, payload_few, frame_few, secure_few}
 use Rattle.felica_calls.specs.Write.{behind_code}
-use Rattle.felica_calls.specs.Call.{without_cr, read_call}
+use Rattle.felica_calls.specs.Call.{without_cr}
 use Rattle.felica_calls.specs.Fault.{fault_text}
 use Rattle.felica_calls.specs.declared.fault.Fault.TheVariants.{LineTooLong}
 use Rattle.felica_calls.specs.declared.source.Source.{Source}

@@ -1,10 +1,10 @@
 -- The lines of an input, as they are found one after another.
 -- Assumes nothing.
 use Rattle.std.proofs.Common.{ℕ, suc, ◌+◌, ◌≤◌, ◌<◌, ◌≡◌, refl, sym, ap, ◌∙◌, Bool, true, false, cond, List, [], ◌∷◌, ◌++◌, append_assoc, append-nil, length, take, drop, eqb, ltb, ltb-true, ltb-false, arith}
-use Rattle.std.specs.Prelude.{Option, None, Some}
+use Rattle.std.specs.Prelude.{None, Some}
 use Rattle.felica_text.specs.Text.{before as bytes_before, place_of}
 use Rattle.felica_text.proofs.Before.{take_before}
-use Rattle.felica.specs.Lines.{lines_from, LineText, Answers}
+use Rattle.felica.specs.Lines.{lines_from}
 use Rattle.felica.specs.Held.{NoEnd}
 
 -- where the first line feed stands, and where none does

@@ -1,8 +1,8 @@
 -- Piece after piece is read, and its lines are answered.
 -- Assumes nothing.
-use Rattle.std.proofs.Common.{ℕ, ◌+◌, ◌-◌, ◌≤◌, ◌<◌, ◌≡◌, refl, sym, ap, ◌∙◌, subst, arith, Bool, true, false, List, [], ◌∷◌, ◌++◌, append_assoc, append-nil, length, take, drop, length-append, length-drop, length-take-le}
+use Rattle.std.proofs.Common.{ℕ, ◌+◌, ◌-◌, ◌≤◌, ◌≡◌, refl, sym, ap, ◌∙◌, subst, arith, Bool, false, List, [], ◌++◌, append_assoc, append-nil, length, take, drop, length-append, length-drop, length-take-le}
 use Rattle.std.specs.Prelude.{Option, None, Some}
-use Rattle.std.specs.Io.KnownBytes.{Consumes, Appends, IsAtEnd}
+use Rattle.std.specs.Io.KnownBytes.{Consumes, Appends}
 use Rattle.std.proofs.KnownBytes.{Appends-nil, Appends-trans, Consumes-nil, Consumes-trans}
 use Rattle.felica_put.specs.declared.Output.{Output}
 use Rattle.felica_put.specs.Output.{held}
@@ -11,7 +11,7 @@ use Rattle.felica_stream.specs.Held.{RoomMade}
 use Rattle.felica_stream.proofs.Held.{still_waits}
 use Rattle.felica_stream.proofs.Reading.{read_split}
 use Rattle.felica.specs.Lines.{lines_from, lines_of, Answers, TakesAnswers}
-use Rattle.felica.specs.Held.{Passed, NoEnd, AnsweredUpTo, AllAnswered, ReadAndAnswered, ReadToEnd, at_end, too_long, AllRead, LastAnswered}
+use Rattle.felica.specs.Held.{AllAnswered, ReadAndAnswered, at_end, too_long, AllRead, LastAnswered}
 
 -- nothing is read yet
 pub read_none : (q v : Option (List ℕ)) (o : Output ℕ) (long : Bool) {bytes : List ℕ} → bytes ≡ [] → long ≡ false → o.len ≡ 0 → ReadAndAnswered q q v v (held o) long bytes

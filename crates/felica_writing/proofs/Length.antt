@@ -1,14 +1,13 @@
 -- How long the answer to a call of the writer is.
 -- Assumes nothing.
-use Rattle.std.proofs.Common.{ℕ, ◌≤◌, ◌≡◌, refl, Bool, true, false, cond, List, ◌++◌, length, length-append, length-take, drop, ltb, ltb-false, arith}
+use Rattle.std.proofs.Common.{ℕ, ◌≤◌, ◌≡◌, refl, Bool, true, false, cond, List, ◌++◌, length, length-append, length-take, take, ltb, ltb-false, arith}
 use Rattle.std.proofs.Math.Nat.{min-le_left}
 use Rattle.std.proofs.lemmas.List.{length-replicate}
 use Rattle.std.specs.Prelude.{Result, Ok, Err}
-use Rattle.felica_text.specs.Text.{text, before}
+use Rattle.std.specs.Prelude.{codes as text}
 use Rattle.felica_format.specs.Basic.{zeros}
 use Rattle.felica_calls.specs.Fault.{fault_text}
 use Rattle.felica_calls.specs.Write.{max_room}
-use Rattle.felica_calls.specs.Field.{next_field}
 use Rattle.felica_calls.specs.declared.fault.Fault.{Fault}
 use Rattle.felica_named.specs.declared.fault.FieldFault.{FieldFault}
 use Rattle.felica_calls.specs.declared.fault.Fault.TheVariants.{BufferTooLong}
@@ -21,15 +20,20 @@ use Rattle.felica_writing.specs.Answer.{answer_noted, write_answer}
 wrong : (fault : Fault) → length (fault_text fault) ≤ 32778
 wrong fault = let line = fault_length fault in omega (arith, line)
 
+at_most : (n : ℕ) (s : List ℕ) → length (take n s) ≤ n
+at_most n s = rw (length-take n s) (min-le_left n (length s))
+
+short_name : (s : List ℕ) (at : ℕ) → length (name_at s at) ≤ 15
+short_name s at = at_most 15 _
+
+joined : (a b c : List ℕ) → length a ≤ 42 → length b ≤ 2 → length c ≤ 15 → length (a ++ b ++ c) ≤ 32778
+joined a b c f g h = omega (arith, length-append (a ++ b) c, length-append a b, f, g, h)
+
 noted_length : (size code : ℕ) (s : List ℕ) (noted : Result Noted FieldFault) → size ≤ 16384 → length (answer_noted size code s noted) ≤ 32778
 noted_length size code s (Ok noted) h =
     let room : length (zeros size) ≡ size = length-replicate {A = ℕ} size 0 in
     written_length (command_named code noted) (zeros size) (omega arith)
-noted_length size code s (Err wrong) h =
-    let fault = fault_length wrong.fault in
-    let name = length-take 15 (before 61 (next_field (drop wrong.at s))) in
-    let few = min-le_left 15 (length (before 61 (next_field (drop wrong.at s)))) in
-    omega (arith, fault, name, few, length-append (fault_text wrong.fault) (text ": " ++ name_at s wrong.at), length-append (text ": ") (name_at s wrong.at))
+noted_length size code s (Err e) h = joined (fault_text e.fault) (text ": ") (name_at s e.at) (fault_length e.fault) (omega arith) (short_name s e.at)
 
 pub write_length : (size code : ℕ) (s : List ℕ) → length (write_answer size code s) ≤ 32778
 unfolding write_answer

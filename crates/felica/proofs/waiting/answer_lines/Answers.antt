@@ -1,6 +1,6 @@
 -- `answer_lines` answers the lines that end.
 -- Assumes nothing.
-use Rattle.std.proofs.Common.{◌+◌, [], refl, sym, ◌∙◌, arith, drop}
+use Rattle.std.proofs.Common.{◌+◌, [], refl, sym, ◌∙◌, arith}
 use Rattle.felica_put.proofs.Laws.{take_rest}
 use Rattle.felica.proofs.Lines.{line_inside}
 use Rattle.felica.proofs.Held.{answered_start, answered_line, rest_start, rest_next}

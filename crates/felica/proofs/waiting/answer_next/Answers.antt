@@ -1,7 +1,6 @@
 -- `answer_next` answers the line in the room that it makes.
 -- Assumes nothing.
-use Rattle.std.proofs.Common.{rules, ◌++◌, sym, ap}
-use Rattle.felica_put.specs.Output.{held}
+use Rattle.std.proofs.Common.{rules, ◌++◌}
 use Rattle.felica_put.proofs.Laws.{puts_then}
 use Rattle.felica_calls.specs.Fault.{fault_text}
 use Rattle.felica_calls.specs.declared.fault.Fault.TheVariants.{LineTooLong}
