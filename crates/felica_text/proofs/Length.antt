@@ -2,7 +2,7 @@
 -- Assumes nothing.
 use Rattle.std.proofs.Common.{ℕ, suc, ◌+◌, ◌*◌, ◌≤◌, ◌≡◌, refl, List, [], ◌∷◌, length, length-append, arith}
 use Rattle.std.proofs.Math.Nat.{mul-suc}
-use Rattle.felica_text.specs.Text.{byte_text, digits_text, bytes_text, behind_commas, parted}
+use Rattle.felica_text.specs.Text.{digits_text, bytes_text, behind_commas, parted}
 
 digits_length : (s : List ℕ) → length (digits_text s) ≡ 2 * length s
 digits_length [] = refl
