@@ -1,22 +1,19 @@
 -- Steps over the bytes held, one behind another, and the rest of them moved to the front.
 -- Assumes nothing.
-use Rattle.std.proofs.Common.{ℕ, suc, ◌+◌, ◌-◌, ◌≤◌, ◌<◌, zero-add, add-zero, arith, ◌≡◌, refl, sym, ap, ◌∙◌, subst, ◌⊎◌, inl, inr, Bool, true, false, cond, ◌&&◌, true≢false, List, [], ◌∷◌, ◌++◌, append_assoc, append-nil, ltb, leb, length, get_or, take, drop, length-drop, length-append, take-append-drop, length-take-le, drop-drop, get_or-drop, ltb-true, ltb-false, leb-true, leb-false, le-leb}
-use Rattle.std.proofs.Math.Nat.{sub-zero}
-use Rattle.std.proofs.Math.Seq.{paste}
-use Rattle.std.proofs.lemmas.List.{drop-take, take-append-le}
-use Rattle.std.proofs.lemmas.List.Edits.{take-paste}
-use Rattle.std.specs.Prelude.{None, Some, Result, Ok, Err, OnOk, MatchResult}
-use Rattle.std.specs.Result.{is_ok}
+use Rattle.std.proofs.Common.{ℕ, suc, ◌+◌, ◌-◌, ◌≤◌, ◌<◌, add-zero, arith, ◌≡◌, refl, sym, ap, ◌∙◌, subst, ◌⊎◌, inl, inr, Bool, true, false, ◌&&◌, true≢false, List, [], ◌∷◌, ◌++◌, append_assoc, append-nil, ltb, leb, length, get_or, take, drop, length-drop, length-append, length-take-le, drop-drop, get_or-drop, ltb-true, ltb-false, leb-true, leb-false, le-leb}
+use Rattle.std.specs.Prelude.{None, Some}
 use Rattle.std.specs.declared.option.Option.{Option}
 use Rattle.std.specs.Io.KnownBytes.{Consumes, Appends, IsAtEnd}
+use Rattle.std.proofs.KnownBytes.{Appends-nil, Appends-trans, Consumes-nil, Consumes-trans}
 use Rattle.felica_put.specs.declared.Output.{Output}
 use Rattle.felica_put.specs.Output.{Puts, held}
 use Rattle.felica_put.specs.Put.{Buffer}
 use Rattle.felica_put.proofs.Laws.{put_room, put_taken, put_within, kept}
 use Rattle.felica_totals.specs.declared.Totals.{Totals}
 use Rattle.felica_totals.specs.Count.{no_totals}
-use Rattle.felica_stream.specs.Held.{moved, RoomMade}
-use Rattle.felica_stream.proofs.Held.{room_length, waits_inside, room_made}
+use Rattle.felica_stream.specs.Held.{RoomMade}
+use Rattle.felica_stream.proofs.Held.{room_length, waits_inside, room_made, still_waits}
+use Rattle.felica_stream.proofs.Reading.{read_split}
 use Rattle.felica_log.specs.declared.Stop.{Stop}
 use Rattle.felica_log.specs.Listing.{max_records, records_left, listing_from, listing}
 use Rattle.felica_log.specs.Step.{Reached, reached, lacks_room, line_room, room_for_line, step, end_text}
@@ -26,54 +23,8 @@ use Rattle.felica_log.proofs.Rules.{end_listed_from, full_behind, step_lists, st
 use Rattle.felica_log.proofs.StepResult.{step_result}
 use Rattle.list_log.specs.Held.{HasLineRoom, ListedUpTo, RestKept, ReadAndListed, ReadToEnd, at_end, at_limit, too_long, AllRead, TakesListing, EndPut, over}
 
--- what a writer takes, and what a reader gives
-appends_none : (v : Option (List ℕ)) → Appends v v []
-appends_none None = tt
-appends_none (Some xs) = sym (append-nil xs)
-
-pub appends_more : (u v w : Option (List ℕ)) (a b : List ℕ) → Appends u v a → Appends v w b → Appends u w (a ++ b)
-appends_more None v w a b h k = tt
-appends_more (Some xs) None w a b h k = absurd h
-appends_more (Some xs) (Some ys) None a b h k = absurd k
-appends_more (Some xs) (Some ys) (Some zs) a b h k = k ∙ ap (λ (x : List ℕ). x ++ b) h ∙ append_assoc xs a b
-
-pub on_ok : {A E : Type 0} (r : Result A E) {P Q : Type 0} → (P → Q) → OnOk r P → OnOk r Q
-on_ok (Ok x) f p = f p
-on_ok (Err x) f p = tt
-
--- a value that is there behind `map_err` was there before it
-pub from_ok : {A E D : Type 0} (r : Result A E) (q : Result A D) (P : E → Type 0) {x : A} → MatchResult r (λ (y : A). q ≡ Ok y) P → is_ok q ≡ is_ok r → q ≡ Ok x → r ≡ Ok x
-from_ok (Ok y) q P same ok is = cc
-from_ok (Err e) q P failed ok is = absurd (true≢false (sym (ap is_ok is) ∙ ok))
-
-pub ok_as : {A B E D : Type 0} (r : Result A E) (q : Result B D) (P : Type 0) → is_ok q ≡ is_ok r → OnOk r P → OnOk q P
-ok_as r (Err e) P same p = tt
-ok_as (Ok x) (Ok y) P same p = p
-ok_as (Err x) (Ok y) P same p = absurd (true≢false same)
-
-consumes_none : (r : Option (List ℕ)) → Consumes r r []
-consumes_none None = tt
-consumes_none (Some xs) = refl
-
-pub consumes_more : (q r s : Option (List ℕ)) (a b : List ℕ) → Consumes q r a → Consumes r s b → Consumes q s (a ++ b)
-consumes_more None r s a b h k = tt
-consumes_more (Some xs) None s a b h k = absurd h
-consumes_more (Some xs) (Some ys) None a b h k = absurd k
-consumes_more (Some xs) (Some ys) (Some zs) a b h k = h ∙ ap (λ (x : List ℕ). a ++ x) k ∙ sym (append_assoc a b zs)
-
--- what waits is what is written where room is made, and what still waits
-still : (out : List ℕ) (next : ℕ) (fits : Bool) → take next out ≡ take (next - cond fits next 0) out ++ take (cond fits next 0) out
-still out next true = let none : next - next ≡ 0 = omega arith in rw none
-still out next false = rw sub-zero (sym (append-nil (take next out)))
-
+-- where room is made for a line
 module _ {o p : Output ℕ} (made : RoomMade o p line_room) where
-  pub still_waits : take o.len o.room.now ≡ take (o.len - p.len) o.room.now ++ take p.len p.room.now
-  still_waits =
-      ap (λ (b : Buffer). take o.len o.room.now) made.held
-      ∙ still o.room.now o.len (leb (o.len + line_room) (length o.room.now))
-      ∙ ap (λ (b : Buffer). take (o.len - b.next) o.room.now ++ take b.next b.bytes) (sym made.held)
-
-  -- there is room for a line then
   pub line_room_made : HasLineRoom o → HasLineRoom p
   line_room_made h = record { inside = waits_inside made; line = omega (arith, room_length made, h.line) }
 
@@ -140,21 +91,11 @@ listed_room v w z t a bytes u used {o} {p} made more l = record {
   written = l.written ++ take (o.len - p.len) o.room.now;
   lists = l.lists;
   waits = l.waits ∙ ap (λ (x : List ℕ). l.written ++ x) (still_waits made) ∙ sym (append_assoc l.written (take (o.len - p.len) o.room.now) (take p.len p.room.now));
-  taken = appends_more v w z l.written (take (o.len - p.len) o.room.now) l.taken more;
+  taken = Appends-trans v w z l.written (take (o.len - p.len) o.room.now) l.taken more;
 }
 
 pub listed_start : (v : Option (List ℕ)) (t : Totals) (a : Buffer) (held : List ℕ) → ListedUpTo v t a held v t a 0
-listed_start v t a held = record { lines = []; written = []; lists = λ behind. refl; waits = append-nil (take a.next a.bytes); taken = appends_none v }
-
--- the rest of the bytes held, moved to the front
-pub rest_moved : (s : List ℕ) (used end : ℕ) → used ≤ end → end ≤ length s → take (end - used) (moved s used end) ≡ drop used (take end s)
-unfolding moved
-rest_moved s used end h k =
-    let all : used + (end - used) ≡ end = omega arith in
-    rw (le-leb end (length s) k)
-    (ap (λ (n : ℕ). take n (paste s 0 (drop used s) (end - used))) (sym (zero-add (end - used)))
-    ∙ take-paste s 0 (drop used s) (end - used) (omega arith) (rw (length-drop used s) (omega arith))
-    ∙ sym (drop-take used (end - used) s) ∙ ap (λ (n : ℕ). drop used (take n s)) all)
+listed_start v t a held = record { lines = []; written = []; lists = λ behind. refl; waits = append-nil (take a.next a.bytes); taken = Appends-nil v }
 
 pub none_kept : (v : Option (List ℕ)) (t : Totals) (a : Buffer) (held : List ℕ) (w : Option (List ℕ)) (u : Totals) (b : Buffer) (rest : List ℕ) → RestKept v t a held w u b rest → NoneLeft u rest
 none_kept v t a held w u b rest (used, all, is) = subst (NoneLeft u) (sym is) all.1
@@ -181,7 +122,7 @@ module _ {o p q : Output ℕ} (text : List ℕ) (made : RoomMade o p line_room) 
   -- and the writer takes them, with what waits
   pub end_taken : (u v z : Option (List ℕ)) → Appends u v (take (o.len - p.len) o.room.now) → Appends v z (take q.len q.room.now) → Appends u z (take o.len o.room.now ++ text)
   end_taken u v z first second =
-      let all = appends_more u v z (take (o.len - p.len) o.room.now) (take q.len q.room.now) first second in
+      let all = Appends-trans u v z (take (o.len - p.len) o.room.now) (take q.len q.room.now) first second in
       subst (Appends u z)
       (ap (λ (x : List ℕ). take (o.len - p.len) o.room.now ++ x) end_whole ∙ sym (append_assoc (take (o.len - p.len) o.room.now) (take p.len p.room.now) text)
       ∙ ap (λ (x : List ℕ). x ++ text) (sym (still_waits made)))
@@ -217,22 +158,34 @@ read_none q v t o none start e = record {
   log = [];
   written = [];
   lists = λ behind. rw (none, e, start) refl;
-  given = consumes_none q;
-  taken = appends_none v;
+  given = Consumes-nil q;
+  taken = Appends-nil v;
 }
 
--- One more piece is read behind the bytes held, and they are listed with it.
-read_split : (input : List ℕ) (held more : ℕ) → held ≤ more → more ≤ length input → take more input ≡ take held input ++ drop held (take more input)
-read_split input held more h k =
-    let long : length (take more input) ≡ more = length-take-le more input k in
-    let front : take held (take more input) ≡ take held input =
-    sym (take-append-le held (take more input) (drop more input) (omega (arith, long))) ∙ ap (take held) (take-append-drop more input) in
-    sym (take-append-drop held (take more input)) ∙ ap (λ (x : List ℕ). x ++ drop held (take more input)) front
+-- what waits is written
+pub read_written : (q r v w z : Option (List ℕ)) (t : Totals) {o p : Output ℕ} {room : ℕ} (bytes : List ℕ) → RoomMade o p room → Appends w z (take (o.len - p.len) o.room.now)
+    → (done : ReadAndListed q r v w t (held o) bytes) → (x : ReadAndListed q r v z t (held p) bytes) × (length x.log ≡ length done.log)
+read_written q r v w z t {o} {p} bytes made more done =
+    let written = take (o.len - p.len) o.room.now in (
+      record {
+        log = done.log;
+        written = done.written ++ written;
+        lists = λ behind.
+            done.lists behind
+            ∙ ap (λ (x : List ℕ). done.written ++ (x ++ listing_from (records_left t) t (bytes ++ behind))) (still_waits made)
+            ∙ ap (λ (x : List ℕ). done.written ++ x) (append_assoc written (take p.len p.room.now) (listing_from (records_left t) t (bytes ++ behind)))
+            ∙ sym (append_assoc done.written written (take p.len p.room.now ++ listing_from (records_left t) t (bytes ++ behind)));
+        given = done.given;
+        taken = Appends-trans v w z done.written written done.taken more;
+      },
+      refl,
+    )
 
 -- so many bytes more have been read than before
 abbrev pub Longer : (q r v w : Option (List ℕ)) (t : Totals) (a : Buffer) (held : List ℕ) → ReadAndListed q r v w t a held → (p s y z : Option (List ℕ)) (u : Totals) (c : Buffer) (rest : List ℕ) → ℕ → Type 0
 Longer q r v w t a held done p s y z u c rest n = (x : ReadAndListed p s y z u c rest) × (length x.log ≡ length done.log + n)
 
+-- One more piece is read behind the bytes held, and they are listed with it.
 pub read_turn : (q r s v w z : Option (List ℕ)) (t : Totals) (a : Buffer) (before input : List ℕ) (held more : ℕ) (u : Totals) (c : Buffer) (rest : List ℕ) → held ≤ more → more ≤ length input
     → take held input ≡ take held before → Consumes r s (drop held (take more input)) → (done : ReadAndListed q r v w t a (take held before)) → RestKept w t a (take more input) z u c rest → Longer q r v w t a (take held before) done q s v z u c rest (more - held)
 read_turn q r s v w z t a before input held more u c rest h k same takes done (used, all, is) =
@@ -250,8 +203,8 @@ read_turn q r s v w z t a before input held more u c rest h k same takes done (u
             ∙ ap (λ (x : List ℕ). done.written ++ (take a.next a.bytes ++ x)) (l.lists behind ∙ ap (λ (x : List ℕ). l.lines ++ listing_from (records_left u) u (x ++ behind)) (sym is))
             ∙ ap (λ (x : List ℕ). done.written ++ x) (sym (append_assoc (take a.next a.bytes) l.lines (next behind)) ∙ ap (λ (x : List ℕ). x ++ next behind) l.waits ∙ append_assoc l.written (take c.next c.bytes) (next behind))
             ∙ sym (append_assoc done.written l.written (take c.next c.bytes ++ next behind));
-        given = consumes_more q r s done.log piece done.given takes;
-        taken = appends_more v w z done.written l.written done.taken l.taken;
+        given = Consumes-trans q r s done.log piece done.given takes;
+        taken = Appends-trans v w z done.written l.written done.taken l.taken;
       },
       length-append done.log piece ∙ ap (λ (n : ℕ). length done.log + n) far,
     )
@@ -297,4 +250,4 @@ pub takes_listing : (q r v w z : Option (List ℕ)) (t : Totals) (c : Buffer) (h
 takes_listing None r v w z t c held none all last = tt
 takes_listing (Some xs) None v w z t c held none (x, all) last = absurd x.given
 takes_listing (Some xs) (Some r) v w z t c held none (x, all) last = λ short.
-    subst (Appends v z) (sym (whole xs r v w z t c held none x all short)) (appends_more v w z x.written (take c.next c.bytes ++ end_text t held) x.taken last)
+    subst (Appends v z) (sym (whole xs r v w z t c held none x all short)) (Appends-trans v w z x.written (take c.next c.bytes ++ end_text t held) x.taken last)

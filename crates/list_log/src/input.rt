@@ -1,8 +1,7 @@
 // What is read of a log.
 ghost use Rattle.std.specs.Prelude.{◌≤◌, length};
 
-// The input: a lent buffer in which the longest record has room, and how many bytes at its front are held.
-// Not shared with felica, whose `Input` has no least room: that would be a const parameter, 0 there, for a struct of two fields.
+// The input: a lent buffer in which the longest record has room, and how many bytes at its front are held. felica has one too, which is of a fixed length and holds lines.
 #[derive(Drop)]
 pub(crate) struct Input<'a> {
     pub(crate) room: &'a mut [u8],

@@ -1,8 +1,9 @@
 // Lists a log: reads it on standard input, and writes a line for each record to standard output.
 #![tactic(auto)]
 
-ghost use Rattle.std.specs.Prelude.{◌≡◌, ◌≤◌, ◌<◌, ◌+◌, true, false, ◌++◌, IfOk, OnOk, length, take, drop};
+ghost use Rattle.std.specs.Prelude.{◌≡◌, ◌≤◌, ◌<◌, ◌+◌, true, false, ◌++◌, IfOk, OnOk, MatchResult, length, take, drop};
 ghost use Rattle.std.specs.Io.KnownBytes.{Consumes, Appends, IsAtEnd};
+ghost use Rattle.std.specs.Process.{exit_status};
 ghost use Rattle.felica_put.specs.Output.{held as put_in};
 ghost use Rattle.felica_totals.specs.Count.{no_totals};
 ghost use Rattle.felica_log.specs.Listing.{max_records};
@@ -11,22 +12,20 @@ ghost use Rattle.felica_log.specs.Rules.{Sound, NoneLeft};
 ghost use Rattle.list_log.specs.Held.{HasLineRoom, AllListed, RestKept, bytes_in, AllRead, TakesListing, EndPut, over};
 
 mod input;
+mod usage;
 
 use felica_log::end::put_end;
 use felica_log::step::list_records;
 use felica_log::{LINE_ROOM, MAX_RECORDS};
 use felica_put::Output;
+use felica_stream::arguments::join_arguments;
+use felica_stream::failure::Failure;
 use felica_stream::{keep_rest, make_room, read_more};
 use felica_totals::Totals;
 use input::Input;
 use std::io::{self, Read, Write};
-
-// What keeps a listing from being complete.
-#[derive(Clone, Copy, Debug, PartialEq, Eq)]
-enum Failure {
-    Read,
-    Write,
-}
+use std::process::ExitCode;
+use usage::answer_words;
 
 // A listing as far as it has come: the lines that wait, and the totals of the records before the next.
 #[derive(Drop)]
@@ -89,8 +88,8 @@ fn read_piece<R: Read>(reader: &mut R, input: &mut Input) -> io::Result<bool>
     Ok(more == held)
 }
 
-// Reads the log and lists its records, until what is held is the bytes behind them. A proved loop has to end, and nothing says that the input does: the turns are
-// counted.
+// Reads the log and lists its records, until what is held is the bytes behind them. What waits is written before each read: it may be what the other side waits for before it
+// writes on. A proved loop has to end, and nothing says that the input does: the turns are counted.
 fn feed<R: Read, W: Write>(
     reader: &mut R,
     writer: &mut W,
@@ -102,6 +101,8 @@ fn feed<R: Read, W: Write>(
     ensures none_left { OnOk result (NoneLeft listing.new.totals (bytes_in input.new)) }
 {
     for _ in 0..u64::MAX {
+        let all = listing.out.room.len();
+        make_room(writer, &mut listing.out, all).map_err(|_| Failure::Write)?;
         let ended = read_piece(reader, input).map_err(|_| Failure::Read)?;
         list_input(writer, input, listing).map_err(|_| Failure::Write)?;
         if is_over(ended, listing.totals, input.held) {
@@ -135,16 +136,29 @@ fn list<R: Read, W: Write>(
     finish(writer, &input.room[..input.held], listing).map_err(|_| Failure::Write)
 }
 
-// Lists the log; one without TOTAL is not complete, and then the error output says why. The arrays are lent by `main`, since there is no heap.
+// Says on the error output what failed, and answers the program's status.
+fn status_of<E: Write>(listed: Result<(), Failure>, errors: &mut E) -> ExitCode
+    ensures { MatchResult listed (λ _. exit_status result ≡ 0) (λ _. exit_status result ≡ 1) }
+{
+    let said: &[u8] = match listed {
+        Ok(()) => return ExitCode::SUCCESS,
+        Err(Failure::Read) => b"list_log: the log cannot be read\n",
+        Err(Failure::Write) => b"list_log: the listing cannot be written\n",
+    };
+    let _ = errors.write_all(said);
+    ExitCode::FAILURE
+}
+
+// Lists the log; one without TOTAL is not complete, and then the status is not 0. The arrays are lent by `main`, since there is no heap.
 fn run<R: Read, W: Write, E: Write>(
     reader: &mut R,
     writer: &mut W,
     errors: &mut E,
     input: &mut [u8],
     out: &mut [u8],
-) -> Result<(), Failure>
+) -> ExitCode
     requires { (256 ≤ length input.old) × (line_room ≤ length out.old) }
-    ensures { OnOk result (TakesListing (R.remaining reader.old) (W.contents writer.old) (W.contents writer.new)) }
+    ensures { exit_status result ≡ 0 → TakesListing (R.remaining reader.old) (W.contents writer.old) (W.contents writer.new) }
 {
     let mut input = Input {
         room: input,
@@ -155,26 +169,22 @@ fn run<R: Read, W: Write, E: Write>(
         totals: Totals::new(),
     };
     let listed = list(reader, writer, &mut input, &mut listing);
-    let _ = match listed {
-        Ok(()) => Ok(()),
-        Err(Failure::Read) => {
-            let _ = writer.write_all(listing.out.filled());
-            errors.write_all(b"list_log: the log cannot be read\n")
-        }
-        Err(Failure::Write) => errors.write_all(b"list_log: the listing cannot be written\n"),
-    };
-    listed
+    status_of(listed, errors)
 }
 
-fn main(rt: HostRuntime) {
+fn main(rt: HostRuntime) -> ExitCode {
     let mut input = [0u8; 65536];
     let mut out = [0u8; 65536];
-    // What failed stands on the error output.
-    let _ = run(
-        &mut rt.stdin(),
-        &mut rt.stdout(),
-        &mut rt.stderr(),
-        &mut input,
-        &mut out,
-    );
+    // Words that find no room are none that the program knows.
+    let words = join_arguments(&rt, &mut input).unwrap_or(Some(0));
+    match words {
+        None => run(
+            &mut rt.stdin(),
+            &mut rt.stdout(),
+            &mut rt.stderr(),
+            &mut input,
+            &mut out,
+        ),
+        Some(end) => answer_words(&mut rt.stdout(), &mut rt.stderr(), &input[..end]),
+    }
 }

@@ -12,8 +12,9 @@ loop-listing-init g c = record { listed = listed_start _ c.args.listing.now.tota
 pub invariant_of-listing-in-loop-listing : goal.invariant_of-listing-in-loop-listing
 invariant_of-listing-in-loop-listing g c =
     let e = c.list_records-progress.ensures.reached in
+    let room = room_after _ _ _ e {p = c.list_records-progress.new.out} refl refl (line_room_made c.in_ok-make_room.ensures.out c.loop-listing.listing.room) in
     record {
-      room = room_after _ _ _ e refl refl (line_room_made c.in_ok-make_room.ensures.out c.loop-listing.listing.room);
+      room = record { inside = omega (arith, room.inside); line = room.line };
       sound = sound_after _ _ _ e c.loop-listing.listing.sound;
     }
 

@@ -1,7 +1,7 @@
 -- `list_input` meets its contract.
 -- Assumes nothing.
 use Rattle.std.proofs.Common.{◌-◌, ◌≤◌, ap, ◌∙◌, arith, take, length-take-le}
-use Rattle.list_log.proofs.Held.{rest_moved}
+use Rattle.felica_stream.proofs.Held.{rest_moved}
 use Rattle.list_log.proofs.list_input.Goals as goal
 
 pub returns-clause-listed : goal.returns-clause-listed
