@@ -4,7 +4,7 @@ use Rattle.std.specs.Prelude.{ℕ, ◌^◌, ◌-◌, ◌≡◌, ◌≤◌, ◌<�
 use Rattle.std.specs.Io.KnownBytes.{Appends}
 use Rattle.felica_calls.specs.Fault.{fault_text}
 use Rattle.felica_calls.specs.declared.fault.Fault.TheVariants.{LineTooLong}
-use Rattle.felica.specs.Answers.{CallText}
+use Rattle.felica_answering.specs.Answers.{CallText}
 
 -- The lines of an input, when some bytes of the first one have gone before: each ends at a line feed, whose code is 10. What stands behind the last line feed is a line if it is not empty.
 unfoldable pub lines_from : List ℕ → List ℕ → List (List ℕ)

@@ -1,21 +1,19 @@
 // Answers calls: reads them on standard input, a line each, and writes a line for each to standard output.
 #![tactic(auto)]
 
-ghost use Rattle.std.specs.Prelude.{◌≡◌, ◌≤◌, ◌<◌, true, false, OnOk, IfOk, length, take, drop, ◌++◌, List, ℕ};
-ghost use Rattle.std.specs.Io.KnownBytes.{Consumes, Appends, IsAtEnd};
+ghost use Rattle.std.specs.Prelude.{◌≡◌, ◌≤◌, ◌<◌, true, false, OnOk, IfOk, MatchResult, length, take, drop};
+ghost use Rattle.std.specs.Process.{exit_status};
+ghost use Rattle.std.specs.Io.KnownBytes.{Consumes, IsAtEnd};
 ghost use Rattle.felica_put.specs.Output.{held};
-ghost use Rattle.felica.specs.Answers.{max_call_bytes};
 ghost use Rattle.felica.specs.Lines.{TakesAnswers};
-ghost use Rattle.felica.specs.Room.{answer_room, input_size};
+ghost use Rattle.felica.specs.Room.{input_size};
 ghost use Rattle.felica.specs.Held.{bytes_in, AllAnswered, AllRead, LastAnswered};
 
-mod answer;
 mod input;
-mod lists;
-mod parse;
 mod usage;
 mod waiting;
 
+use felica_answering::MAX_CALL_BYTES;
 use felica_put::Output;
 use felica_stream::arguments::join_arguments;
 use felica_stream::failure::Failure;
@@ -121,27 +119,12 @@ fn answer_all<R: Read, W: Write>(
         .map_err(|_| Failure::Write)
 }
 
-fn run<R: Read, W: Write>(
-    reader: &mut R,
-    writer: &mut W,
-    input: &mut [u8],
-    waiting: &mut Waiting,
-) -> Result<(), Failure>
-    requires { (length input.old ≡ input_size) × (waiting.old.out.len ≡ 0) }
-    ensures { OnOk result (TakesAnswers (R.remaining reader.old) (W.contents writer.old) (W.contents writer.new)) }
+// Says on the error output what failed, and answers the program's status.
+fn status_of<E: Write>(answered: Result<(), Failure>, errors: &mut E) -> ExitCode
+    ensures { MatchResult answered (λ _. exit_status result ≡ 0) (λ _. exit_status result ≡ 1) }
 {
-    let mut input = Input {
-        room: input,
-        held: 0,
-        too_long: false,
-    };
-    answer_all(reader, writer, &mut input, waiting)
-}
-
-// Says on the error output what failed.
-fn status_of<E: Write>(done: Result<ExitCode, Failure>, errors: &mut E) -> ExitCode {
-    let said: &[u8] = match done {
-        Ok(status) => return status,
+    let said: &[u8] = match answered {
+        Ok(()) => return ExitCode::SUCCESS,
         Err(Failure::Read) => b"felica: the calls cannot be read\n",
         Err(Failure::Write) => b"felica: the answers cannot be written\n",
     };
@@ -149,10 +132,29 @@ fn status_of<E: Write>(done: Result<ExitCode, Failure>, errors: &mut E) -> ExitC
     ExitCode::FAILURE
 }
 
-// The arrays stand here, since there is no heap.
+// Answers the calls; where not all are answered, the status is not 0. The arrays are lent by `main`, since there is no heap.
+fn run<R: Read, W: Write, E: Write>(
+    reader: &mut R,
+    writer: &mut W,
+    errors: &mut E,
+    input: &mut [u8],
+    waiting: &mut Waiting,
+) -> ExitCode
+    requires { (length input.old ≡ input_size) × (waiting.old.out.len ≡ 0) }
+    ensures { exit_status result ≡ 0 → TakesAnswers (R.remaining reader.old) (W.contents writer.old) (W.contents writer.new) }
+{
+    let mut input = Input {
+        room: input,
+        held: 0,
+        too_long: false,
+    };
+    let answered = answer_all(reader, writer, &mut input, waiting);
+    status_of(answered, errors)
+}
+
 fn main(rt: HostRuntime) -> ExitCode {
     let mut input = [0u8; 65536];
-    let mut bytes = [0u8; 16384];
+    let mut bytes = [0u8; MAX_CALL_BYTES];
     let mut out = [0u8; 65536];
     let mut waiting = Waiting {
         out: Output::new(&mut out),
@@ -160,16 +162,19 @@ fn main(rt: HostRuntime) -> ExitCode {
     };
     // Words that find no room are no call, as none are.
     let words = join_arguments(&rt, &mut input[..65535]).unwrap_or(Some(0));
-    let done = match words {
-        None => run(&mut rt.stdin(), &mut rt.stdout(), &mut input, &mut waiting)
-            .map(|_| ExitCode::SUCCESS),
+    match words {
+        None => run(
+            &mut rt.stdin(),
+            &mut rt.stdout(),
+            &mut rt.stderr(),
+            &mut input,
+            &mut waiting,
+        ),
         Some(end) => answer_words(
             &mut rt.stdout(),
             &mut rt.stderr(),
             &input[..end],
             &mut waiting,
-        )
-        .map_err(|_| Failure::Write),
-    };
-    status_of(done, &mut rt.stderr())
+        ),
+    }
 }

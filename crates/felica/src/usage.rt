@@ -22,26 +22,34 @@ one of these asks for its long forms or its lists, and W for a command's bytes (
 // Words that are no call are answered by the usage on the error output.
 const NO_CALL: u8 = 2;
 
-// Answers the call that the words say, or says how the program is used.
+// Answers the call that the words say, or says how the program is used. The input is not read.
 pub(crate) fn answer_words<W: Write, E: Write>(
     writer: &mut W,
     errors: &mut E,
     words: &[u8],
     waiting: &mut Waiting,
-) -> io::Result<ExitCode>
+) -> ExitCode
+    requires { length words.now ≤ max_line }
+{
+    if words != b"--help".as_slice() && !is_call(words) {
+        let _ = errors.write_all(USAGE);
+        return ExitCode::from(NO_CALL);
+    }
+    if answer_or_help(writer, words, waiting).is_ok() {
+        return ExitCode::SUCCESS;
+    }
+    let _ = errors.write_all(b"felica: the answer cannot be written\n");
+    ExitCode::FAILURE
+}
+
+fn answer_or_help<W: Write>(writer: &mut W, words: &[u8], waiting: &mut Waiting) -> io::Result<()>
     requires { length words.now ≤ max_line }
 {
     if words == b"--help".as_slice() {
-        writer.write_all(USAGE)?;
-        return Ok(ExitCode::SUCCESS);
-    }
-    if !is_call(words) {
-        errors.write_all(USAGE)?;
-        return Ok(ExitCode::from(NO_CALL));
+        return writer.write_all(USAGE);
     }
     answer_next(writer, words, false, waiting)?;
-    writer.write_all(waiting.out.filled())?;
-    Ok(ExitCode::SUCCESS)
+    writer.write_all(waiting.out.filled())
 }
 
 fn is_call(words: &[u8]) -> bool {

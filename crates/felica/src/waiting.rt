@@ -2,20 +2,17 @@
 ghost use Rattle.std.specs.Prelude.{◌≡◌, ◌≤◌, true, false, OnOk, IfOk, length, drop, ◌-◌, ◌++◌, List, ℕ};
 ghost use Rattle.std.specs.Io.KnownBytes.{Appends};
 ghost use Rattle.felica_put.specs.Output.{held};
-ghost use Rattle.felica.specs.Answers.{max_call_bytes};
+ghost use Rattle.felica_answering.specs.Answers.{max_call_bytes};
 ghost use Rattle.felica.specs.Lines.{max_line};
 ghost use Rattle.felica.specs.Room.{input_size, HasAnswerRoom};
 ghost use Rattle.felica.specs.Held.{ Passed, LineAnswered, AllAnswered};
 
-use crate::answer::answer_line;
+use felica_answering::{ANSWER_ROOM, answer_line};
 use felica_calls::fault::{Fault, put_fault};
 use felica_put::Output;
 use felica_stream::make_room;
 use felica_text::find::find;
 use std::io::{self, Write};
-
-// Room for the longest answer and its line feed: a package of 16,384 bytes in digits, and the fields before it.
-const ANSWER_ROOM: usize = 33024;
 
 // The answers that wait, and the buffer that the bytes of a call are read to.
 #[derive(Drop)]

@@ -4,7 +4,8 @@ use Rattle.std.proofs.Common.{rules, ◌++◌}
 use Rattle.felica_put.proofs.Laws.{puts_then}
 use Rattle.felica_calls.specs.Fault.{fault_text}
 use Rattle.felica_calls.specs.declared.fault.Fault.TheVariants.{LineTooLong}
-use Rattle.felica.proofs.Length.{too_long_fits, call_fits}
+use Rattle.felica_answering.proofs.SameCall.{line_put}
+use Rattle.felica_answering.proofs.Length.{too_long_fits, call_fits}
 use Rattle.felica.proofs.Held.{long_line_text, line_text, answer_put, room_kept, room_still}
 use Rattle.felica.proofs.waiting.answer_next.Goals as goal
 
@@ -23,6 +24,6 @@ returns-then-too_long g c = λ passed is.
 
 pub returns-else-too_long : goal.returns-else-too_long
 returns-else-too_long g c = λ passed is.
-    let told = c.answer_line.ensures in
+    let told = line_put c.args.line.now c.args.waiting.now.bytes.now c.args.waiting.now.bytes_size c.answer_line.ensures in
     answer_put (passed ++ c.args.line.now) told.0 c.in_ok-make_room.ensures.out c.args.waiting.now.room (call_fits c.args.line.now told.0 told.1) told.2 _ _
     (line_text passed c.args.line.now told.0 (rw c.if-too_long.false at is) (c.requires c.if-too_long.false) told.1) c.in_ok-make_room.ensures.bytes

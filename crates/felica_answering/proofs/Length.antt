@@ -17,10 +17,10 @@ use Rattle.felica_calls.proofs.Counts.{call_kept}
 use Rattle.felica_calls.proofs.Length.{fault_length}
 use Rattle.felica_answers.proofs.Length.{answer_length, long_length, list_length}
 use Rattle.felica_writing.proofs.Length.{write_length}
-use Rattle.felica.specs.Source.{reading_of, payload_in, body_at}
-use Rattle.felica.specs.Lists.{lent}
-use Rattle.felica.specs.Answers.{max_call_bytes, call_of, CallText}
-use Rattle.felica.specs.Room.{answer_room, AnswersFit}
+use Rattle.felica_answering.specs.Source.{reading_of, payload_in, body_at}
+use Rattle.felica_answering.specs.Lists.{lent}
+use Rattle.felica_answering.specs.Answers.{max_call_bytes, call_of, CallText}
+use Rattle.felica_answering.specs.Room.{answer_room, AnswersFit}
 
 source_few : (source : Source) (s : List ℕ) → FewIn (reading_of source s)
 source_few Frame s = frame_few s

@@ -5,8 +5,8 @@ ghost use Rattle.felica_lists.specs.Lists.{buffers, listed};
 ghost use Rattle.felica_lists.specs.Rules.{ListAccount};
 ghost use Rattle.felica_calls.specs.Sizes.{Lent};
 ghost use Rattle.felica_answers.specs.Lists.{list_line};
-ghost use Rattle.felica.specs.Source.{reading_of, payload_in, body_at};
-ghost use Rattle.felica.specs.Lists.{list_answer};
+ghost use Rattle.felica_answering.specs.Source.{reading_of, payload_in, body_at};
+ghost use Rattle.felica_answering.specs.Lists.{list_answer};
 
 use felica_answers::lists::put_listed;
 use felica_calls::sizes::{MAX_LENT, Sizes};

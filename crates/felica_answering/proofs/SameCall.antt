@@ -1,11 +1,15 @@
 -- What a line says as a call doesn't hang on what the buffer for its bytes held before.
 -- Assumes nothing.
-use Rattle.std.proofs.Common.{ℕ, ◌/◌, ◌%◌, ◌≡◌, refl, sym, ap, ◌∙◌, subst, Bool, true, false, not, cond, List, ◌++◌, length, take, drop, eqb, ltb}
+use Rattle.std.proofs.Common.{ℕ, ◌/◌, ◌%◌, ◌≡◌, refl, sym, ap, ◌∙◌, subst, Bool, true, false, not, cond, List, [], ◌∷◌, ◌++◌, length, take, drop, eqb, ltb}
 use Rattle.std.specs.Prelude.{Result, Ok, Err, IfOk}
 use Rattle.std.proofs.Math.Seq.{take-append_seam}
+use Rattle.std.proofs.lemmas.List.{length-replicate}
 use Rattle.felica_command.specs.Places.{Account}
 use Rattle.felica_command.specs.Meaning.{ParserResult}
 use Rattle.felica_text.specs.Text.{text}
+use Rattle.felica_format.specs.Basic.{zeros}
+use Rattle.felica_put.specs.declared.Output.{Output}
+use Rattle.felica_put.specs.Output.{Puts}
 use Rattle.felica_calls.specs.Read.{Read, read, if_ok, read_in, ◌>>=◌}
 use Rattle.felica_calls.specs.Field.{next_field, behind_field, behind_next, field_of, is_name}
 use Rattle.felica_calls.specs.Bytes.{bytes_of, all_digits, digits_or_blanks, has_zero_x, read_bytes, read_last}
@@ -13,7 +17,7 @@ use Rattle.felica_calls.specs.Number.{read_number}
 use Rattle.felica_calls.specs.Sizes.{read_sizes}
 use Rattle.felica_calls.specs.Source.{read_source, behind_source, read_command_code}
 use Rattle.felica_calls.specs.Write.{max_room}
-use Rattle.felica_calls.specs.Call.{read_asked, read_list, read_call, count_of}
+use Rattle.felica_calls.specs.Call.{without_cr, read_asked, read_list, read_call, count_of}
 use Rattle.felica_calls.specs.declared.fault.Fault.{Fault}
 use Rattle.felica_calls.specs.declared.fault.Fault.TheVariants.{EmptyLine, MissingField, ExtraField, BlankInside, ZeroX, NoDigit as NotADigit, OddDigits, TooManyBytes}
 use Rattle.felica_calls.specs.declared.source.Source.{Source}
@@ -22,9 +26,9 @@ use Rattle.felica_calls.specs.declared.call.Call.TheVariants.{Parse, Long, List 
 use Rattle.felica_calls.proofs.Reading.{length_bytes}
 use Rattle.felica_answers.specs.Answer.{line_of}
 use Rattle.felica_answers.specs.Long.{long_line}
-use Rattle.felica.specs.Source.{reading_of, payload_in, body_at}
-use Rattle.felica.specs.Lists.{list_answer}
-use Rattle.felica.specs.Answers.{AnswerText}
+use Rattle.felica_answering.specs.Source.{reading_of, payload_in, body_at}
+use Rattle.felica_answering.specs.Lists.{list_answer}
+use Rattle.felica_answering.specs.Answers.{AnswerText, max_call_bytes, CallText, LinePut}
 
 -- the same value, and as many bytes as it counts at the front of the buffer
 record Same {A : Type 0} (count : A → ℕ) (r q : Read A) : Type 0 where
@@ -120,8 +124,12 @@ module _ (line b c text : List ℕ) where
   same_answer (Ok (Write size code)) same answer = answer
   same_answer (Err fault) same answer = answer
 
-pub answer_kept : (line b c text : List ℕ) → length b ≡ length c → AnswerText line (read_call line b).answer (read_call line b).buffer text → AnswerText line (read_call line c).answer (read_call line c).buffer text
+answer_kept : (line b c text : List ℕ) → length b ≡ length c → AnswerText line (read_call line b).answer (read_call line b).buffer text → AnswerText line (read_call line c).answer (read_call line c).buffer text
 answer_kept line b c text e answer =
     let same = same_call line b c e in
     subst (λ (call : Result Call Fault). AnswerText line call (read_call line c).buffer text) same.answer
     (same_answer line (read_call line b).buffer (read_call line c).buffer text (read_call line b).answer same.front answer)
+
+-- what is put of a line, by a buffer with room for the longest call
+pub line_put : (line bytes : List ℕ) {a b : Output ℕ} → length bytes ≡ max_call_bytes → LinePut line bytes a b → (text : List ℕ) × CallText line text × Puts a b (text ++ (10 ∷ []))
+line_put line bytes e told = (told.0, answer_kept (without_cr line) bytes (zeros max_call_bytes) told.0 (e ∙ sym (length-replicate {A = ℕ} max_call_bytes 0)) told.1, told.2)

@@ -1,4 +1,4 @@
--- `felica::lists::answer_list` lends buffers of the lengths of the call, and writes the line of what the list reader answers.
+-- `answer_list` lends buffers of the lengths of the call, and writes the line of what the list reader answers.
 -- Assumes nothing.
 use Rattle.std.proofs.Common.{ap, ◌∙◌, rules}
 use Rattle.std.proofs.lemmas.List.{take-replicate}
@@ -6,9 +6,9 @@ use Rattle.felica_put.proofs.Lists.{puts_same}
 use Rattle.felica_lists.specs.Lists.{Buffers, listed}
 use Rattle.felica_lists.proofs.Lent.{buffers_of, same_buffers}
 use Rattle.felica_answers.specs.Lists.{list_line, listed_text}
-use Rattle.felica.specs.Source.{reading_of, payload_in}
-use Rattle.felica.proofs.Listed.{listed_line}
-use Rattle.felica.proofs.lists.answer_list.Goals as goal
+use Rattle.felica_answering.specs.Source.{reading_of, payload_in}
+use Rattle.felica_answering.proofs.Listed.{listed_line}
+use Rattle.felica_answering.proofs.lists.answer_list.Goals as goal
 
 pub returns : goal.returns
 returns c =

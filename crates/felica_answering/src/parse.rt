@@ -5,7 +5,7 @@ ghost use Rattle.felica_command.specs.Meaning.{ParserResult};
 ghost use Rattle.felica_put.specs.Output.{Puts};
 ghost use Rattle.felica_answers.specs.Answer.{line_of};
 ghost use Rattle.felica_answers.specs.Long.{long_line};
-ghost use Rattle.felica.specs.Source.{reading_of, payload_in, body_at};
+ghost use Rattle.felica_answering.specs.Source.{reading_of, payload_in, body_at};
 
 use felica_answers::answer::put_answer;
 use felica_answers::long::put_long;

@@ -1,4 +1,4 @@
--- `felica::answer_call` answers what the line calls for.
+-- `answer_call` answers what the line calls for.
 -- Assumes nothing.
 use Rattle.std.proofs.Common.{◌≡◌, ℕ, List, refl, sym, subst}
 use Rattle.std.specs.Prelude.{Result}
@@ -9,8 +9,8 @@ use Rattle.felica_calls.specs.Call.{Called, called}
 use Rattle.felica_calls.specs.declared.call.Call.{Call}
 use Rattle.felica_calls.specs.declared.fault.Fault.{Fault}
 use Rattle.felica_calls.proofs.Counts.{call_within}
-use Rattle.felica.specs.Answers.{AnswerText}
-use Rattle.felica.proofs.answer.answer_call.Goals as goal
+use Rattle.felica_answering.specs.Answers.{AnswerText}
+use Rattle.felica_answering.proofs.answer_call.Goals as goal
 
 -- what was read, answered as what it is
 answered : (line : List ℕ) {found : Result Call Fault} {bytes : List ℕ} {c : Called} (a b : Output ℕ) (text : List ℕ) → called found bytes ≡ c

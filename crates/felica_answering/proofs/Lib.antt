@@ -1,0 +1,3 @@
+pub mod Listed
+pub mod SameCall
+pub mod Length
