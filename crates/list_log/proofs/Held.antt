@@ -1,4 +1,4 @@
--- Steps over the bytes held, one behind another, and the rest of them moved to the front.
+-- Steps over the bytes held, one behind another, and piece after piece of a log that is read and listed.
 -- Assumes nothing.
 use Rattle.std.proofs.Common.{ℕ, suc, ◌+◌, ◌-◌, ◌≤◌, ◌<◌, add-zero, arith, ◌≡◌, refl, sym, ap, ◌∙◌, subst, ◌⊎◌, inl, inr, Bool, true, false, ◌&&◌, true≢false, List, [], ◌∷◌, ◌++◌, append_assoc, append-nil, ltb, leb, length, get_or, take, drop, length-drop, length-append, length-take-le, drop-drop, get_or-drop, ltb-true, ltb-false, leb-true, leb-false, le-leb}
 use Rattle.std.specs.Prelude.{None, Some}
