@@ -15,7 +15,8 @@ use Rattle.felica_stream.specs.Held.{RoomMade}
 use Rattle.felica_stream.proofs.Held.{room_length, waits_inside, room_made, still_waits}
 use Rattle.felica.specs.Lines.{lines_from, max_line, LineText, Answers}
 use Rattle.felica_answering.specs.Answers.{CallText}
-use Rattle.felica.specs.Room.{answer_room, input_size, HasAnswerRoom}
+use Rattle.felica_answering.specs.Room.{answer_room}
+use Rattle.felica.specs.Room.{input_size, HasAnswerRoom}
 use Rattle.felica.specs.Held.{Passed, NoEnd, AnsweredUpTo, AllAnswered, LineAnswered, LastAnswered}
 use Rattle.felica.proofs.Lines.{line_found, no_line_found, last_line, no_last_line, none_in_nothing}
 
