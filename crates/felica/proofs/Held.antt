@@ -103,8 +103,8 @@ pub passed_over : (v : Option (List ℕ)) (b : Buffer) (long : Bool) (s : List �
 passed_over v b long s w c now left all either = (
   none_in_nothing,
   λ before is.
-  let done = all.1 before is in
-  (done.0 ++ left, far done.0 done.1 either, answered_passed v b before s w c done.0 left done.2 all.0),
+      let done = all.1 before is in
+      (done.0 ++ left, far done.0 done.1 either, answered_passed v b before s w c done.0 left done.2 all.0),
 )
   where
     far : (passed : List ℕ) → Passed now passed → (now ≡ true) ⊎ (input_size ≤ length left) → input_size ≤ length (passed ++ left)

@@ -90,5 +90,5 @@ takes_answers (Some xs) (Some r) v w z y c long left d (none, (x, at_end e)) las
       x.written ++ (take c.next c.bytes ++ l.0),
       subst (λ (s : List ℕ). Answers (lines_of s) (x.written ++ (take c.next c.bytes ++ l.0))) whole answers,
       Appends-trans v w y x.written (take c.next c.bytes ++ l.0) x.taken
-      (subst (Appends w y) (sym l.3) (Appends-trans w z y l.1 (take d.next d.bytes) l.4 taken)),
+          (subst (Appends w y) (sym l.3) (Appends-trans w z y l.1 (take d.next d.bytes) l.4 taken)),
     )

@@ -25,11 +25,7 @@ use usage::answer_words;
 use waiting::{Waiting, answer_lines, answer_next};
 
 // Answers the lines that end in what is held, and moves the rest to the front. The rest of a line that fills the buffer, or that is too long already, is passed over.
-fn answer_held<W: Write>(
-    writer: &mut W,
-    input: &mut Input,
-    waiting: &mut Waiting,
-) -> io::Result<()>
+fn answer_held<W: Write>(writer: &mut W, input: &mut Input, waiting: &mut Waiting) -> io::Result<()>
     ensures answered { OnOk result (AllAnswered (W.contents writer.old) (held waiting.old.out) input.old.too_long (bytes_in input.old) (W.contents writer.new) (held waiting.new.out) input.new.too_long (bytes_in input.new)) }
     ensures room { OnOk result (input.new.held < input_size) }
 {
@@ -86,11 +82,7 @@ fn feed<R: Read, W: Write>(
 }
 
 // Answers what is held as the last line, if there is one.
-fn answer_last<W: Write>(
-    writer: &mut W,
-    input: &mut Input,
-    waiting: &mut Waiting,
-) -> io::Result<()>
+fn answer_last<W: Write>(writer: &mut W, input: &mut Input, waiting: &mut Waiting) -> io::Result<()>
     requires { input.old.held < input_size }
     ensures { OnOk result (LastAnswered (W.contents writer.old) (held waiting.old.out) input.old.too_long (bytes_in input.old) (W.contents writer.new) (held waiting.new.out)) }
 {

@@ -5,7 +5,7 @@ ghost use Rattle.felica_put.specs.Output.{held};
 ghost use Rattle.felica_answering.specs.Answers.{max_call_bytes};
 ghost use Rattle.felica.specs.Lines.{max_line};
 ghost use Rattle.felica.specs.Room.{input_size, HasAnswerRoom};
-ghost use Rattle.felica.specs.Held.{ Passed, LineAnswered, AllAnswered};
+ghost use Rattle.felica.specs.Held.{Passed, LineAnswered, AllAnswered};
 
 use felica_answering::{ANSWER_ROOM, answer_line};
 use felica_calls::fault::{Fault, put_fault};

@@ -16,6 +16,7 @@ use std::io::{self, ErrorKind, Read, Write};
 // nothing. What is read, how much, and whether that fails, is the reader's.
 // `held` stands beside the lent array, since it may be any number: a struct whose ghost field says that it lies inside would ask that of callers. Each program has such a
 // struct, `Input`.
+#[tactic(auto, using(crate::proofs::Held::read_behind))]
 pub fn read_more<R: Read>(reader: &mut R, input: &mut [u8], held: usize) -> io::Result<usize>
     ensures bytes { IfOk result (λ more. Consumes (R.remaining reader.old) (R.remaining reader.new) (drop held (take more input.new))) }
     ensures end { IfOk result (λ more. more ≡ held → held < length input.old → IsAtEnd (R.remaining reader.new)) }

@@ -14,7 +14,7 @@ pub returns : goal.returns
 returns g c =
     let input = c.args.input.now in
     let some : (passed : List ℕ) → Passed input.too_long passed → 0 < length (passed ++ bytes_in input) = λ passed is. elim c.else-end-eq0.branch [
-      else-end-eq0-via-then-end-eq0+else-not-input w ↦ some_passed input.too_long passed (bytes_in input) w.if-not-input.false is
+      | else-end-eq0-via-then-end-eq0+else-not-input w ↦ some_passed input.too_long passed (bytes_in input) w.if-not-input.false is
       | else-end-eq0-via-else-end-eq0 w ↦ some_held passed (bytes_in input) (omega (arith, w.if-end-eq0.false, length-take-le input.held input.room.now input.inside))
     ] in
     on_ok_weaker _ (last_answered _ _ input.too_long (bytes_in input) _ _ some) c.answer_next.ensures
