@@ -1,10 +1,13 @@
 -- The lines of an input, as they are found one after another.
 -- Assumes nothing.
-use Rattle.std.proofs.Common.{ℕ, suc, ◌+◌, ◌≤◌, ◌<◌, ◌≡◌, refl, sym, ap, ◌∙◌, Bool, true, false, cond, List, [], ◌∷◌, ◌++◌, append_assoc, append-nil, length, take, drop, eqb, ltb, ltb-true, ltb-false, arith}
+use Rattle.std.proofs.Common.{ℕ, suc, ◌+◌, ◌≤◌, ◌<◌, ◌≡◌, refl, sym, ap, ◌∙◌, Bool, true, false, cond, List, [], ◌∷◌, ◌++◌, append_assoc, append-nil, length, take, drop, eqb, ltb, ltb-true, ltb-false, arith, leb, leb-true, leb-false}
 use Rattle.std.specs.Prelude.{None, Some}
 use Rattle.felica_text.specs.Text.{before as bytes_before, place_of}
 use Rattle.felica_text.proofs.Before.{take_before}
-use Rattle.felica.specs.Lines.{lines_from}
+use Rattle.felica.specs.Lines.{lines_from, max_line, LineText, OneOutput}
+use Rattle.felica_calls.specs.Call.{without_cr}
+use Rattle.felica_answering.specs.Answers.{call_of}
+use Rattle.felica_answering.proofs.OneAnswer.{one_answer}
 use Rattle.felica.specs.Held.{NoEnd}
 
 -- where the first line feed stands, and where none does
@@ -85,3 +88,19 @@ none_in_nothing = refl
 pub no_last_line : lines_from [] [] ≡ []
 unfolding lines_from
 no_last_line = refl
+
+-- a line has one text, and so lines have one output
+one_text : (line a b : List ℕ) → LineText line a → LineText line b → a ≡ b
+one_text line a b is same = go (leb (length line) max_line) refl
+  where
+    go : (short : Bool) → leb (length line) max_line ≡ short → a ≡ b
+    go true e =
+        let call = leb-true (length line) max_line e in
+        one_answer (without_cr line) (call_of line).answer (call_of line).buffer a b (is.call call) (same.call call)
+    go false e = let long = leb-false (length line) max_line e in is.too_long (omega (arith, long)) ∙ sym (same.too_long (omega (arith, long)))
+
+pub one_output : OneOutput
+one_output [] a b is same = is ∙ sym same
+one_output (line ∷ lines) a b (text, rest, line_is, rest_is, is) (other, more, line_same, rest_same, same) =
+    is ∙ ap (λ (x : List ℕ). x ++ (10 ∷ rest)) (one_text line text other line_is line_same)
+    ∙ ap (λ (x : List ℕ). other ++ (10 ∷ x)) (one_output lines rest more rest_is rest_same) ∙ sym same

@@ -32,6 +32,10 @@ abbrev pub Answers : List (List ℕ) → List ℕ → Type 0
 Answers [] output = output ≡ []
 Answers (line ∷ lines) output = (text : List ℕ) × (rest : List ℕ) × LineText line text × Answers lines rest × (output ≡ text ++ (10 ∷ rest))
 
+-- Lines have one output (proofs/Lines.antt).
+abbrev pub OneOutput : Type 0
+OneOutput = (lines : List (List ℕ)) (a b : List ℕ) → Answers lines a → Answers lines b → a ≡ b
+
 -- Where it is known what the reader has left, and that is no longer than a machine can count, the writer takes the answers to it, and nothing else.
 abbrev pub TakesAnswers : Option (List ℕ) → Option (List ℕ) → Option (List ℕ) → Type 0
 TakesAnswers q v w = IfSome q (λ input. length input < 2 ^ 64 - 1 → (output : List ℕ) × Answers (lines_of input) output × Appends v w output)

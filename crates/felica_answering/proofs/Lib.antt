@@ -1,3 +1,4 @@
 pub mod Listed
 pub mod SameCall
 pub mod Length
+pub mod OneAnswer

@@ -50,3 +50,7 @@ abbrev pub LinePut : List ℕ → List ℕ → Output ℕ → Output ℕ → Typ
 LinePut line bytes a b =
     (text : List ℕ) × AnswerText (without_cr line) (read_call (without_cr line) bytes).answer (read_call (without_cr line) bytes).buffer text
     × Puts a b (text ++ (10 ∷ []))
+
+-- A call has one answer (proofs/OneAnswer.antt).
+abbrev pub OneAnswer : Type 0
+OneAnswer = (line : List ℕ) (call : Result Call Fault) (bytes a b : List ℕ) → AnswerText line call bytes a → AnswerText line call bytes b → a ≡ b
