@@ -1,7 +1,7 @@
 // Answers calls: reads them on standard input, a line each, and writes a line for each to standard output.
 #![tactic(auto)]
 
-ghost use Rattle.std.specs.Prelude.{◌≡◌, ◌≤◌, ◌<◌, true, false, OnOk, IfOk, MatchResult, length, take, drop};
+ghost use Rattle.std.specs.Prelude.{◌≡◌, ◌≤◌, ◌<◌, true, false, OnOk, IfOk, length, take, drop};
 ghost use Rattle.std.specs.Process.{exit_status};
 ghost use Rattle.std.specs.Io.KnownBytes.{Consumes, IsAtEnd};
 ghost use Rattle.felica_put.specs.Output.{held};
@@ -16,7 +16,7 @@ mod waiting;
 use felica_answering::MAX_CALL_BYTES;
 use felica_put::Output;
 use felica_stream::arguments::join_arguments;
-use felica_stream::failure::Failure;
+use felica_stream::failure::{Failure, status_of};
 use felica_stream::{keep_rest, make_room, read_more};
 use input::Input;
 use std::io::{self, Read, Write};
@@ -111,19 +111,6 @@ fn answer_all<R: Read, W: Write>(
         .map_err(|_| Failure::Write)
 }
 
-// Says on the error output what failed, and answers the program's status.
-fn status_of<E: Write>(answered: Result<(), Failure>, errors: &mut E) -> ExitCode
-    ensures { MatchResult answered (λ _. exit_status result ≡ 0) (λ _. exit_status result ≡ 1) }
-{
-    let said: &[u8] = match answered {
-        Ok(()) => return ExitCode::SUCCESS,
-        Err(Failure::Read) => b"felica: the calls cannot be read\n",
-        Err(Failure::Write) => b"felica: the answers cannot be written\n",
-    };
-    let _ = errors.write_all(said);
-    ExitCode::FAILURE
-}
-
 // Answers the calls; where not all are answered, the status is not 0. The arrays are lent by `main`, since there is no heap.
 fn run<R: Read, W: Write, E: Write>(
     reader: &mut R,
@@ -141,7 +128,12 @@ fn run<R: Read, W: Write, E: Write>(
         too_long: false,
     };
     let answered = answer_all(reader, writer, &mut input, waiting);
-    status_of(answered, errors)
+    status_of(
+        answered,
+        errors,
+        b"felica: the calls cannot be read\n",
+        b"felica: the answers cannot be written\n",
+    )
 }
 
 fn main(rt: HostRuntime) -> ExitCode {

@@ -1,6 +1,6 @@
 -- What a read leaves as it was, bytes moved to the front, and the room behind what waits to be written.
 -- Assumes nothing.
-use Rattle.std.proofs.Common.{ℕ, ◌+◌, ◌-◌, ◌≤◌, ◌<◌, ◌≡◌, refl, sym, ap, ◌∙◌, Bool, true, false, cond, leb, List, ◌++◌, append-nil, length, take, drop, zero-add, length-drop, take-append-drop, arith}
+use Rattle.std.proofs.Common.{ℕ, ◌+◌, ◌-◌, ◌≤◌, ◌<◌, ◌≡◌, refl, sym, ap, ◌∙◌, Bool, true, false, cond, leb, List, ◌++◌, append-nil, length, take, drop, zero-add, length-drop, arith}
 use Rattle.std.proofs.Math.Nat.{sub-zero}
 use Rattle.std.proofs.Math.Seq.{paste, drop-append_seam}
 use Rattle.std.proofs.lemmas.Bool.{lt-leb, le-leb, leb-true}

@@ -1,7 +1,7 @@
 // Lists a log: reads it on standard input, and writes a line for each record to standard output.
 #![tactic(auto)]
 
-ghost use Rattle.std.specs.Prelude.{◌≡◌, ◌≤◌, ◌<◌, ◌+◌, true, false, ◌++◌, IfOk, OnOk, MatchResult, length, take, drop};
+ghost use Rattle.std.specs.Prelude.{◌≡◌, ◌≤◌, ◌<◌, ◌+◌, true, false, ◌++◌, IfOk, OnOk, length, take, drop};
 ghost use Rattle.std.specs.Io.KnownBytes.{Consumes, Appends, IsAtEnd};
 ghost use Rattle.std.specs.Process.{exit_status};
 ghost use Rattle.felica_put.specs.Output.{held as put_in};
@@ -19,7 +19,7 @@ use felica_log::step::list_records;
 use felica_log::{LINE_ROOM, MAX_RECORDS};
 use felica_put::Output;
 use felica_stream::arguments::join_arguments;
-use felica_stream::failure::Failure;
+use felica_stream::failure::{Failure, status_of};
 use felica_stream::{keep_rest, make_room, read_more};
 use felica_totals::Totals;
 use input::Input;
@@ -136,19 +136,6 @@ fn list<R: Read, W: Write>(
     finish(writer, &input.room[..input.held], listing).map_err(|_| Failure::Write)
 }
 
-// Says on the error output what failed, and answers the program's status.
-fn status_of<E: Write>(listed: Result<(), Failure>, errors: &mut E) -> ExitCode
-    ensures { MatchResult listed (λ _. exit_status result ≡ 0) (λ _. exit_status result ≡ 1) }
-{
-    let said: &[u8] = match listed {
-        Ok(()) => return ExitCode::SUCCESS,
-        Err(Failure::Read) => b"list_log: the log cannot be read\n",
-        Err(Failure::Write) => b"list_log: the listing cannot be written\n",
-    };
-    let _ = errors.write_all(said);
-    ExitCode::FAILURE
-}
-
 // Lists the log; one without TOTAL is not complete, and then the status is not 0. The arrays are lent by `main`, since there is no heap.
 fn run<R: Read, W: Write, E: Write>(
     reader: &mut R,
@@ -169,7 +156,12 @@ fn run<R: Read, W: Write, E: Write>(
         totals: Totals::new(),
     };
     let listed = list(reader, writer, &mut input, &mut listing);
-    status_of(listed, errors)
+    status_of(
+        listed,
+        errors,
+        b"list_log: the log cannot be read\n",
+        b"list_log: the listing cannot be written\n",
+    )
 }
 
 fn main(rt: HostRuntime) -> ExitCode {
