@@ -13,7 +13,7 @@ use Rattle.felica_calls.specs.Fault.{fault_text}
 use Rattle.felica_calls.specs.declared.fault.Fault.TheVariants.{LineTooLong}
 use Rattle.felica_stream.specs.Held.{RoomMade}
 use Rattle.felica_stream.proofs.Held.{room_length, waits_inside, room_made, still_waits}
-use Rattle.felica.specs.Lines.{lines_from, max_line, LineText, Answers}
+use Rattle.felica.specs.Lines.{TakesAnswer, lines_from, max_line, LineText, Answers}
 use Rattle.felica_answering.specs.Answers.{CallText}
 use Rattle.felica_answering.specs.Room.{answer_room}
 use Rattle.felica.specs.Room.{input_size, HasAnswerRoom}
@@ -131,3 +131,10 @@ last_answered v b long left w c some answered none passed is =
     let a = answered passed is in
     let last = subst (λ (lines : List (List ℕ)). Answers lines (a.text ++ (10 ∷ []))) (sym (last_line passed left none (some passed is))) (a.text, [], a.is_text, refl, refl) in
     (a.text ++ (10 ∷ []), a.written, last, a.waits, a.taken)
+
+-- one line alone
+pub takes_answer : (line : List ℕ) (v w z : Option (List ℕ)) (b c : Buffer) → b.next ≡ 0 → LineAnswered v b line w c → Appends w z (take c.next c.bytes) → TakesAnswer line v z
+takes_answer line v w z b c none a taken =
+    let nothing : take b.next b.bytes ≡ [] = ap (λ (n : ℕ). take n b.bytes) none in
+    let whole : a.written ++ take c.next c.bytes ≡ a.text ++ (10 ∷ []) = sym a.waits ∙ ap (λ (x : List ℕ). x ++ (a.text ++ (10 ∷ []))) nothing in
+    (a.text ++ (10 ∷ []), (a.text, [], a.is_text, refl, refl), subst (Appends v z) whole (Appends-trans v w z a.written (take c.next c.bytes) a.taken taken))

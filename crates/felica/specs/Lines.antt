@@ -39,3 +39,7 @@ OneOutput = (lines : List (List ℕ)) (a b : List ℕ) → Answers lines a → A
 -- Where it is known what the reader has left, and that is no longer than a machine can count, the writer takes the answers to it, and nothing else.
 abbrev pub TakesAnswers : Option (List ℕ) → Option (List ℕ) → Option (List ℕ) → Type 0
 TakesAnswers q v w = IfSome q (λ input. length input < 2 ^ 64 - 1 → (output : List ℕ) × Answers (lines_of input) output × Appends v w output)
+
+-- the same of one line, given as words
+abbrev pub TakesAnswer : List ℕ → Option (List ℕ) → Option (List ℕ) → Type 0
+TakesAnswer line v w = (output : List ℕ) × Answers (line ∷ []) output × Appends v w output

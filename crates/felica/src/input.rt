@@ -2,8 +2,7 @@
 ghost use Rattle.std.specs.Prelude.{◌≡◌, ◌≤◌, length};
 ghost use Rattle.felica.specs.Room.{input_size};
 
-// The input: a lent buffer, how many bytes at its front are held, and whether they stand behind others of the same line, which is too long then. list_log has one too, in which
-// the longest record has room, and no line.
+// The input: a lent buffer, how many bytes at its front are held, and whether they stand behind others of the same line, which is too long then.
 #[derive(Drop)]
 pub(crate) struct Input<'a> {
     pub(crate) room: &'a mut [u8],

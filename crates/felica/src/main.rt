@@ -144,8 +144,8 @@ fn main(rt: HostRuntime) -> ExitCode {
         out: Output::new(&mut out),
         bytes: &mut bytes,
     };
-    // Words that find no room are no call, as none are.
-    let words = join_arguments(&rt, &mut input[..65535]).unwrap_or(Some(0));
+    // Words that are too long for a line get the usage, as an empty word does.
+    let words = join_arguments(&rt, &mut input).unwrap_or(Some(0));
     match words {
         None => run(
             &mut rt.stdin(),

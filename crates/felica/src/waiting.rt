@@ -1,6 +1,5 @@
 // The answers to lines, as far as they wait to be written.
-ghost use Rattle.std.specs.Prelude.{◌≡◌, ◌≤◌, true, false, OnOk, IfOk, length, drop, ◌-◌, ◌++◌, List, ℕ};
-ghost use Rattle.std.specs.Io.KnownBytes.{Appends};
+ghost use Rattle.std.specs.Prelude.{◌≡◌, ◌≤◌, false, OnOk, IfOk, length, drop, ◌-◌, ◌++◌, List, ℕ};
 ghost use Rattle.felica_put.specs.Output.{held};
 ghost use Rattle.felica_answering.specs.Answers.{max_call_bytes};
 ghost use Rattle.felica.specs.Lines.{max_line};

@@ -1,7 +1,6 @@
 -- A call has one answer.
 -- Assumes nothing.
-use Rattle.std.proofs.Common.{ℕ, ◌≡◌, sym, ap, ◌∙◌, List, take, Ok, Err}
-use Rattle.felica_command.specs.Meaning.{ParserResult}
+use Rattle.std.proofs.Common.{sym, ap, ◌∙◌, take, Ok, Err}
 use Rattle.felica_command.proofs.OneAccount.{one_account}
 use Rattle.felica_calls.specs.declared.call.Call.TheVariants.{Parse, Long, List as ListCall, Write}
 use Rattle.felica_answers.specs.Answer.{line_of}

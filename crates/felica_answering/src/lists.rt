@@ -4,7 +4,6 @@ ghost use Rattle.felica_lists.specs.Lent.{held, SameReferences};
 ghost use Rattle.felica_lists.specs.Lists.{buffers, listed};
 ghost use Rattle.felica_lists.specs.Rules.{ListAccount};
 ghost use Rattle.felica_calls.specs.Sizes.{Lent};
-ghost use Rattle.felica_answers.specs.Lists.{list_line};
 ghost use Rattle.felica_answering.specs.Source.{reading_of, payload_in, body_at};
 ghost use Rattle.felica_answering.specs.Lists.{list_answer};
 

@@ -1,9 +1,11 @@
 -- The fields are noted one after the other, each behind one space: where the value begins, at the number of the name.
 -- Assumes nothing.
-use Rattle.std.specs.Prelude.{ℕ, zero, suc, ◌+◌, not, cond, List, length, get_or, set, take, drop, replicate, ltb, leb, eqb, Option, None, Some, is_some, Result, Ok, Err}
+use Rattle.std.specs.Prelude.{ℕ, zero, suc, ◌+◌, not, cond, List, length, get_or, set, take, drop, replicate, ltb, leb, eqb, Option, None, Some, is_some, Result, Ok, Err, Bool}
 -- std has no name for the code of a character
 use Prim.Native.Char.{code}
-use Rattle.felica_text.specs.Text.{before}
+use Rattle.std.specs.List.{list_all}
+use Rattle.std.specs.Char.{is_ascii_graphic}
+use Rattle.felica_text.specs.Text.{text, before}
 use Rattle.felica_calls.specs.Field.{next_field}
 use Rattle.felica_calls.specs.declared.fault.Fault.{Fault}
 use Rattle.felica_calls.specs.declared.fault.Fault.TheVariants.{UnknownField, FieldTwice, MalformedValue, ValueTooLong}
@@ -97,6 +99,14 @@ noted_of s (Err wrong) = Err wrong
 abbrev pub fields_noted : List ℕ → Result Noted FieldFault
 fields_noted s = noted_of s (starts_noted s)
 
+-- whether it has visible characters of ASCII alone
+unfoldable pub is_tellable : List ℕ → Bool
+is_tellable s = list_all is_ascii_graphic s
+
+-- A name as it is told: `-` for an empty one, and `?` for one with other bytes, which could pass for another answer.
+abbrev pub told_name : List ℕ → List ℕ
+told_name name = cond (eqb (length name) 0) (text "-") (cond (is_tellable name) name (text "?"))
+
 -- the name of the field at a place: what stands between its space and its `=`, or its end, and of that no more than the 15 bytes of the longest name
 abbrev pub name_at : List ℕ → ℕ → List ℕ
-name_at s at = take 15 (before (code "=") (next_field (drop at s)))
+name_at s at = told_name (take 15 (before (code "=") (next_field (drop at s))))

@@ -1,10 +1,13 @@
 // A program's arguments as one line.
-ghost use Rattle.std.specs.Prelude.{◌≡◌, ◌≤◌, IfOk, IfSome, length};
+ghost use Rattle.std.specs.Prelude.{◌≤◌, IfOk, IfSome, length};
 
 use std::env::{Env, FillError};
 
+// The status of a program whose arguments are none that it knows.
+pub const NOT_KNOWN: u8 = 2;
+
 // Puts the words behind the program's name into `line`, a space between two, and answers how many bytes they are; none where there is no word. What the words are is the
-// system's. Words that fill the line are too long.
+// system's. Where `line` has no room for all of them, that is an error.
 pub fn join_arguments<E: Env>(env: &E, line: &mut [u8]) -> Result<Option<usize>, FillError>
     ensures { IfOk result (λ words. IfSome words (λ end. end ≤ length line.new)) }
 {
@@ -28,5 +31,5 @@ pub fn join_arguments<E: Env>(env: &E, line: &mut [u8]) -> Result<Option<usize>,
             Err(FillError::TooLong) => return Err(FillError::TooLong),
         }
     }
-    Ok(end)
+    Err(FillError::TooLong)
 }

@@ -1,4 +1,5 @@
 // What the program does with words behind its name.
+use felica_stream::arguments::NOT_KNOWN;
 use std::io::Write;
 use std::process::ExitCode;
 
@@ -7,16 +8,13 @@ usage: list_log < LOG     lists the log on its input, a line for each record and
        list_log --help    says this
 
 A log is records, each a byte that says how many follow it, and a frame of so many bytes. The last line of a
-listing is TOTAL: one without it is not complete, and the error output says why.
+listing is TOTAL, with its line feed: one without it is not complete, and the status is 1.
 
        list_log < frames.log
        printf '\\006\\006\\000\\377\\377\\000\\001' | list_log
 ";
 
-// Words that the program does not know are answered by the usage on the error output.
-const UNKNOWN: u8 = 2;
-
-// Says how the program is used. The log is not read.
+// Says how the program is used: on the error output where the words are other than `--help`. The log is not read.
 pub(crate) fn answer_words<W: Write, E: Write>(
     writer: &mut W,
     errors: &mut E,
@@ -24,7 +22,7 @@ pub(crate) fn answer_words<W: Write, E: Write>(
 ) -> ExitCode {
     if words != b"--help".as_slice() {
         let _ = errors.write_all(USAGE);
-        return ExitCode::from(UNKNOWN);
+        return ExitCode::from(NOT_KNOWN);
     }
     if writer.write_all(USAGE).is_ok() {
         return ExitCode::SUCCESS;
