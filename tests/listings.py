@@ -8,10 +8,9 @@ program is taken from.
 import hashlib
 import pathlib
 import struct
-import subprocess
 import sys
 
-from running import ROOT, run, run_in_pieces, stop_without
+from running import FAILURES, ROOT, run, run_in_pieces, stop_without
 
 POLLING = bytes.fromhex("06060001020000")
 READ = bytes.fromhex("10100601020304050607080109100180FF")
@@ -62,7 +61,7 @@ def is_listed(attempt, wanted):
     """Whether the program ends well, says nothing on the error output, and has written the listing with that digest."""
     try:
         listing, said, status = attempt()
-    except (OSError, subprocess.SubprocessError):
+    except FAILURES:
         return False
     return digest_of(listing) == wanted and not said and status == 0
 
@@ -75,9 +74,9 @@ def main():
     logs += (recipe for it in corpus for recipe in corpus_recipes(it))
     results = []
     for name, log, wanted in logs:
-        results.append((name, is_listed(lambda: run("list_log", given=log), wanted)))
+        results.append((name, is_listed(lambda log=log: run("list_log", given=log), wanted)))
         for size in (1, 3, 17) if len(log) < 2000 else ():
-            results.append((f"{name} in pieces of {size}", is_listed(lambda: run_in_pieces("list_log", log, size), wanted)))
+            results.append((f"{name} in pieces of {size}", is_listed(lambda log=log, size=size: run_in_pieces("list_log", log, size), wanted)))
     differ = [name for name, same in results if not same]
     for name in differ:
         print(f"differs: {name}")

@@ -1,10 +1,11 @@
 #!/usr/bin/env python3
-"""make_log.py: writes crates/list_log/stdin, a log longer than two pieces of 65,536 bytes that ends within a record, and crates/list_log/stdout, its listing, longer than two as well.
+"""make_log.py [--check]: writes crates/list_log/stdin, a log longer than two pieces of 65,536 bytes that ends within a record, and crates/list_log/stdout, its listing, longer than two as well.
 
 The listing is put together from what went into each record, and no frame is read: so it says what the program must print, and does not come from it. The log begins
-with document 01's sample, records stand across the ends of the pieces, and each run writes the same. No program is needed.
+with document 01's sample, records stand across the ends of the pieces, and each run writes the same. No program is needed. With --check it writes nothing, and fails where what stands there is not what it would write.
 """
 import pathlib
+import sys
 
 CRATE = pathlib.Path(__file__).resolve().parent.parent / "crates" / "list_log"
 PIECE = 65536
@@ -156,8 +157,14 @@ def make():
 
 def main():
     log, listing = make()
-    (CRATE / "stdin").write_bytes(log)
-    (CRATE / "stdout").write_text(listing)
+    made = {CRATE / "stdin": bytes(log), CRATE / "stdout": listing.encode()}
+    if sys.argv[1:] == ["--check"]:
+        differ = [path.name for path, content in made.items() if path.read_bytes() != content]
+        sys.exit(f"make_log.py makes another {' and '.join(differ)} of list_log" if differ else 0)
+    if sys.argv[1:]:
+        sys.exit("usage: make_log.py [--check]")
+    for path, content in made.items():
+        path.write_bytes(content)
     print(f"{len(log)} bytes of log, {len(listing)} of listing, {listing.count(chr(10))} lines")
 
 

@@ -1,4 +1,5 @@
 """Runs the programs for the tests beside this file, none for longer than SECONDS. Nothing is built: a program is crates/NAME/out/NAME, where rt ci leaves it, and rt run in crates/NAME."""
+import concurrent.futures
 import contextlib
 import fcntl
 import os
@@ -8,10 +9,13 @@ import subprocess
 import sys
 import termios
 import threading
+import time
 
 ROOT = pathlib.Path(__file__).resolve().parent.parent
 SECONDS = 10
 PIPE = subprocess.PIPE
+# What a run may raise: a test that ends so differs.
+FAILURES = (OSError, ValueError, subprocess.SubprocessError)
 
 
 def program(name):
@@ -27,7 +31,7 @@ def stop_without(*names):
 
 def run(name, *words, given=b"", redirected="", **streams):
     """What a program writes to its output and its error output, and its status. A redirection is the shell's."""
-    streams = {"stdout": PIPE, "stderr": PIPE} | streams
+    streams = {"stdout": PIPE, "stderr": PIPE, **streams}
     if "stdin" not in streams:
         streams["input"] = given
     command = ["sh", "-c", f'exec "$0" "$@" {redirected}', program(name), *words]
@@ -38,7 +42,7 @@ def run(name, *words, given=b"", redirected="", **streams):
 @contextlib.contextmanager
 def started(name, **streams):
     """A program with pipes, killed after SECONDS, or where the block ends before it."""
-    streams = {"stdin": PIPE, "stdout": PIPE, "stderr": PIPE} | streams
+    streams = {"stdin": PIPE, "stdout": PIPE, "stderr": PIPE, **streams}
     with subprocess.Popen([program(name)], bufsize=0, **streams) as running:
         clock = threading.Timer(SECONDS, running.kill)
         clock.start()
@@ -66,14 +70,11 @@ def bytes_in(reading):
 
 def run_in_pieces(name, given, size):
     """The same as run, where a piece of the input is written only when the one before it has been read."""
-    with started(name) as running:
-        results = []
-        reader = threading.Thread(target=lambda: results.append(ended(running)))
-        reader.start()
+    with started(name) as running, concurrent.futures.ThreadPoolExecutor(1) as readers:
+        end = readers.submit(ended, running)
         for at in range(0, len(given), size):
             running.stdin.write(given[at : at + size])
             while bytes_in(running.stdin) and running.poll() is None:
-                pass
+                time.sleep(0.0001)
         running.stdin.close()
-        reader.join()
-        return results[0]
+        return end.result()
