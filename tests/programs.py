@@ -4,17 +4,22 @@
 What waits is written before each read; what fails is told on the error output and by the status; a call in the arguments is answered without reading; of input in pieces, of long lines
 and of long inputs no line is lost. A line for each test that differs, and one with the counts. Nothing is built: running.py says where the programs are taken from.
 """
+import fcntl
 import os
+import pathlib
 import select
 import subprocess
 import sys
 import tempfile
 import time
 
-from running import ROOT, bytes_in, ended, pipe, run, run_in_pieces, started, stop_without
+from running import FAILURES, PIPE, ROOT, SECONDS, bytes_in, ended, pipe, program, run, run_in_pieces, started, stop_without
 
-# In which all is tried. Where programs hang it is not enough.
-MOST_SECONDS = 45
+# In which all is tried, each run in the seconds that running.py gives it. Where many programs hang it is not enough.
+MOST_SECONDS = 240
+# What fcntl calls F_SETPIPE_SZ since Python 3.10.
+SET_PIPE_SIZE = 1031
+PIECE = 65536
 I8 = "0102030405060708"
 READ = f"1006{I8}010B10018000"
 CALLS = {
@@ -37,10 +42,11 @@ CALLS = {
     "F -": "NO 1 --",
 }
 # Calls that stand as lines alone: as arguments they are none.
-LINES = CALLS | {"X 02": "BAD CALL: unknown call", "": "BAD CALL: empty line", "P 01": "NO 5 01"}
+LINES = {**CALLS, "X 02": "BAD CALL: unknown call", "": "BAD CALL: empty line", "P 01": "NO 5 01"}
 RECORDS = {b"\6\6\0\xff\xff\0\0": "OK 00 0 0 0 -", b"\1\1": "NO 3 --", b"\x10" + bytes.fromhex(READ): "OK 06 1 1 0 o", b"\0": "NO 1 --"}
 UNREAD = {"felica": b"felica: the calls cannot be read\n", "list_log": b"list_log: the log cannot be read\n"}
 UNWRITTEN = {"felica": b"felica: the answers cannot be written\n", "list_log": b"list_log: the listing cannot be written\n"}
+UNSAID = {"felica": b"felica: the answer cannot be written\n", "list_log": b"list_log: the usage cannot be written\n"}
 
 
 def lines(texts):
@@ -65,7 +71,7 @@ def read_now(pipe, count):
     """So many bytes or more, if they come within some seconds; of none, what comes at once."""
     got, deadline = b"", time.monotonic() + (4 if count else 0.05)
     while len(got) < max(count, 1) and select.select([pipe], [], [], max(deadline - time.monotonic(), 0))[0]:
-        piece = os.read(pipe.fileno(), 65536)
+        piece = os.read(pipe.fileno(), PIECE)
         if not piece:
             break
         got += piece
@@ -83,6 +89,26 @@ def talk(name, parts):
                 break
         running.stdin.close()
         return said, *ended(running)
+
+
+def whole(name, given):
+    """How many lines that end, or records, an input has."""
+    if name == "felica":
+        return given.count(b"\n")
+    count, at = -1, 0
+    while at <= len(given):
+        count, at = count + 1, at + 1 + (given[at] if at < len(given) else 0)
+    return count
+
+
+def in_parts(name):
+    """What the gate gives a program in parts of 65,536 bytes, each with the answers to what is whole with it, and what is answered behind the last."""
+    given, wanted = sample(name)
+    answers = wanted.splitlines(True)
+    counts = [whole(name, given[:at]) for at in range(0, len(given) + PIECE, PIECE)]
+    parts = [given[at : at + PIECE] for at in range(0, len(given), PIECE)]
+    pairs = zip(parts, counts, counts[1:])
+    return [(part, b"".join(answers[first:last])) for part, first, last in pairs], b"".join(answers[counts[-1] :])
 
 
 def run_unread(name, *words):
@@ -104,11 +130,12 @@ def run_dry(name, given):
 
 
 def run_stalled(name):
-    """With an output that fails when it is full, a pipe that does not block and that nobody reads: whether it has the front of the answers, and how the program ends."""
+    """With an output that fails when it is full, a pipe of 65,536 bytes that does not block and that nobody reads: whether it has the front of the answers, and how the program ends."""
     given, answers = sample(name)
     reading, writing = pipe()
     with reading, writing:
         os.set_blocking(writing.fileno(), False)
+        fcntl.fcntl(writing, SET_PIPE_SIZE, PIECE)
         _, said, status = run(name, given=given, stdout=writing)
         writing.close()
         front = reading.read()
@@ -137,6 +164,21 @@ def run_slow(name):
             return b"".join(parts), *ended(running)[1:]
 
 
+def run_example(name, example):
+    """A line of the usage, as the shell takes it where the program is found by its name, beside a log."""
+    with tempfile.TemporaryDirectory() as folder:
+        pathlib.Path(folder, "frames.log").write_bytes(sample("list_log")[0])
+        path = f"{program(name).parent}:{os.environ['PATH']}"
+        ran = subprocess.run(["sh", "-c", example], cwd=folder, env={**os.environ, "PATH": path}, stdin=subprocess.DEVNULL, stdout=PIPE, stderr=PIPE, timeout=SECONDS)
+        return ran.stdout, ran.stderr, ran.returncode
+
+
+def examples(name):
+    """The lines behind the last empty one of the usage."""
+    usage = run(name, "--help")[0].decode()
+    return [line.strip() for line in usage.split("\n\n")[-1].splitlines()]
+
+
 def run_file(name, given):
     with tempfile.TemporaryFile() as file:
         file.write(given)
@@ -160,26 +202,82 @@ def answers_at_once():
     yield "list_log, parts of records", ([line for _, line in cut], *well(end)), lambda: talk("list_log", cut)
 
 
-def failures():
-    one = {"felica": (b"F 02\n", b"NO 2 --\n"), "list_log": (b"\1\1", b"1 NO 3 --\n")}
-    for name, (given, answer) in one.items():
+def answers_to_pieces():
+    """Parts as large as the room that a program reads to: no part is written before what is whole is answered."""
+    for name in ("felica", "list_log"):
+        parts, last = in_parts(name)
+        wanted = ([answer for _, answer in parts], *well(last))
+        yield f"{name}, {len(parts)} parts of {PIECE} bytes", wanted, lambda name=name, parts=parts: talk(name, parts)
+    parts = [(b"F -\n" * (PIECE // 4), b"NO 1 --\n" * (PIECE // 4))] * 3
+    yield f"felica, parts of {PIECE} bytes that end where a line does", ([answer for _, answer in parts], *well(b"")), lambda parts=parts: talk("felica", parts)
+    ordinals = [range(n, n + PIECE) for n in range(1, 3 * PIECE, PIECE)]
+    answers = [lines(f"{n} NO 1 --" for n in part) for part in ordinals]
+    parts = [(bytes(PIECE), answer) for answer in answers]
+    end = f"TOTAL {3 * PIECE} 0 {3 * PIECE} 0\n".encode()
+    yield f"list_log, parts of {PIECE} bytes that end where a record does", (answers, *well(end)), lambda parts=parts: talk("list_log", parts)
+
+
+def reads_that_fail():
+    """What is whole before that is answered; a line or record that the failure cuts is not, nor is a listing ended."""
+    given = {
+        "felica": ((b"F 02\n", b"NO 2 --\n"), (b"F 02\nF 0600", b"NO 2 --\n"), (b"", b"")),
+        "list_log": ((b"\1\1", b"1 NO 3 --\n"), (b"\1\1\6\6\0", b"1 NO 3 --\n"), (b"", b"")),
+    }
+    for name, inputs in given.items():
         for redirected in ("< /", "<&-"):
-            yield f"{name} {redirected}", (b"", UNREAD[name], 1), lambda: run(name, redirected=redirected)
-        yield f"{name}, an input that fails", (answer, UNREAD[name], 1), lambda: run_dry(name, given)
+            yield f"{name} {redirected}", (b"", UNREAD[name], 1), lambda name=name, redirected=redirected: run(name, redirected=redirected)
+        for front, answer in inputs:
+            yield f"{name}, an input that fails behind {front}", (answer, UNREAD[name], 1), lambda name=name, front=front: run_dry(name, front)
+
+
+def writes_that_fail():
+    """At the first write, at one among many, and at the last, of what does not end or of nothing; and so for words."""
+    given = {"felica": (b"F 02\n", b"F 02"), "list_log": (b"\1\1", b"")}
+    words = {"felica": (["F", "02"], ["F 02"], ["--help"]), "list_log": (["--help"],)}
+    for name in ("felica", "list_log"):
         for redirected in ("> /dev/full", ">&-"):
-            for log in (given, sample(name)[0]):
+            for front in (*given[name], sample(name)[0]):
                 end = (b"", UNWRITTEN[name], 1)
-                yield f"{name} {redirected}, {len(log)} bytes", end, lambda: run(name, given=log, redirected=redirected)
-        yield f"{name}, an output that is full", (True, UNWRITTEN[name], 1), lambda: run_stalled(name)
-        yield f"{name}, an output that nobody reads", (UNWRITTEN[name], 1), lambda: run_unheard(name)
+                yield f"{name} {redirected}, {len(front)} bytes", end, lambda name=name, front=front, how=redirected: run(name, given=front, redirected=how)
+            for it in words[name]:
+                yield f"{name} {it} {redirected}", (b"", UNSAID[name], 1), lambda name=name, it=it, how=redirected: run(name, *it, redirected=how)
+        yield f"{name}, an output that is full", (True, UNWRITTEN[name], 1), lambda name=name: run_stalled(name)
+        yield f"{name}, an output that nobody reads", (UNWRITTEN[name], 1), lambda name=name: run_unheard(name)
 
 
 def call_in_arguments():
     for call, answer in CALLS.items():
         for words in {(call,), (*call.split(" "),)}:
-            yield f"felica {words}", (*well(lines([answer])), 5), lambda: run_unread("felica", *words)
+            yield f"felica {words}", (*well(lines([answer])), 5), lambda words=words: run_unread("felica", *words)
     words = ("W 6", "00", "system=FFFF slots=01")
     yield f"felica {words}", (*well(b"OK 6 0600FFFF0001\n"), 5), lambda: run_unread("felica", *words)
+
+
+def words_as_lines():
+    """The answer to words is the answer to a line of them, parted by blanks."""
+    calls = {
+        f"W 255 08 idm={I8} first=1009 numbers=0001 places=0 modes=0 data={'AB' * 16}": f"OK 32 2008{I8}010910018001{'AB' * 16}",
+        "L F 0600FFFF0000" + " 1 0" * 20: "BAD CALL: extra field",
+        f"L F {READ} 1 0 1 1 1": CALLS[f"L F {READ} 1 0 1 1 1"],
+        "P " + "0" * 65533: "BAD CALL: odd number of hexadecimal digits",
+        "S 82 " + "0" * 65530: "BAD CALL: too many bytes",
+        "W 6 00 \x1b[2K=1": "BAD CALL: unknown field: ?",
+        "W 6 00 system=FFFF  slots=01": "BAD CALL: unknown field: -",
+        "F 06 00": "BAD CALL: blank inside the bytes",
+        "F ": "BAD CALL: missing field",
+        "W 6 00 slots=01 slots=01": "BAD CALL: field given twice: slots",
+        "W x 00": "BAD CALL: not a decimal number",
+    }
+    for call, answer in calls.items():
+        wanted = well(lines([answer]))
+        yield f"felica, {short(call)}", wanted, lambda call=call: run("felica", given=lines([call]))
+        yield f"felica, {short(call)} as words", (*wanted, 5), lambda call=call: run_unread("felica", *call.split(" "))
+        yield f"felica, {short(call)} as one word", (*wanted, 5), lambda call=call: run_unread("felica", call)
+
+
+# More characters than a call may have, in one word and in two.
+TOO_LONG = ["F " + "0" * 69998]
+HALVES_TOO_LONG = ["F " + "0" * 35000, "0" * 35000]
 
 
 def is_usage(name, text):
@@ -192,13 +290,25 @@ def usage_told():
         out, said, status, left = run_unread(name, *words)
         return is_usage(name, out) or out, is_usage(name, said) or said, status, left
 
+    both = (["--help", "--help"], ["-h"], ["--version"], [""], ["x"], ["-"], TOO_LONG, HALVES_TOO_LONG)
+    unknown = {
+        "felica": (["f", "02"], ["FX", "02"], ["LONGER", "F", "02"], ["-F", "02"], ["--help", "F", "02"], ["F 02\nF 03"], ["F", "02\n"], ["P " + "0" * 65534]),
+        "list_log": (["/dev/null"], ["--help\n"]),
+    }
     for name in ("felica", "list_log"):
-        yield f"{name} --help", (True, b"", 0, 5), lambda: told(name, "--help")
-        for words in (["--help", "--help"], ["-h"], ["--version"], [""], ["x"], ["-"]):
-            yield f"{name} {words}", (b"", True, 2, 5), lambda: told(name, *words)
-    for words in (["f", "02"], ["FX", "02"], ["LONGER", "F", "02"], ["-F", "02"], ["--help", "F", "02"]):
-        yield f"felica {words}", (b"", True, 2, 5), lambda: told("felica", *words)
-    yield "list_log /dev/null", (b"", True, 2, 5), lambda: told("list_log", "/dev/null")
+        yield f"{name} --help", (True, b"", 0, 5), lambda name=name: told(name, "--help")
+        for words in (*both, *unknown[name]):
+            yield f"{name} {short(words)}", (b"", True, 2, 5), lambda name=name, words=words: told(name, *words)
+
+
+def usage_examples():
+    """What the usage gives as examples, run as it stands there."""
+    wanted = {
+        "felica": [b"OK 00 system=FFFF request=00 slots=00\n", b"OK 00 system=FFFF request=00 slots=00\nNO 2 --\n"],
+        "list_log": [sample("list_log")[1], b"1 OK 00 0 0 0 -\nTOTAL 1 1 0 0\n"],
+    }
+    for name, outputs in wanted.items():
+        yield f"{name}, the examples of its usage", [well(output) for output in outputs], lambda name=name: [run_example(name, example) for example in examples(name)]
 
 
 def forms_of_calls():
@@ -218,18 +328,18 @@ def forms_of_calls():
         "W 6 00 blocks=00": "BAD CALL: unknown field: blocks",
         "W 10 0C idm=12": "BAD CALL: malformed value: idm",
     }
-    for call, answer in (small | faults).items():
-        yield f"felica, {call}", well(lines([answer])), lambda: run("felica", given=lines([call]))
+    for call, answer in {**small, **faults}.items():
+        yield f"felica, {call}", well(lines([answer])), lambda call=call: run("felica", given=lines([call]))
 
 
 def input_in_pieces():
     """Short logs are tried by listings.py."""
     calls, answers = lines(LINES)[:-1], lines(LINES.values())
     for size in (1, 3, 17):
-        yield f"felica in pieces of {size}", well(answers), lambda: run_in_pieces("felica", calls, size)
+        yield f"felica in pieces of {size}", well(answers), lambda size=size: run_in_pieces("felica", calls, size)
     for name in ("felica", "list_log"):
         given, wanted = sample(name)
-        yield f"{name}, what the gate gives it in pieces of 4099", well(wanted), lambda: run_in_pieces(name, given, 4099)
+        yield f"{name}, what the gate gives it in pieces of 4099", well(wanted), lambda name=name, given=given: run_in_pieces(name, given, 4099)
 
 
 def long_lines():
@@ -240,9 +350,9 @@ def long_lines():
     answers = lines(part for answer in told.values() for part in (answer, "NO 2 --"))
     yield "felica, long lines", well(answers), lambda: run("felica", given=lines(between))
     for size in (4096, 65535):
-        yield f"felica, long lines in pieces of {size}", well(answers), lambda: run_in_pieces("felica", lines(between), size)
+        yield f"felica, long lines in pieces of {size}", well(answers), lambda size=size: run_in_pieces("felica", lines(between), size)
     for line, answer in told.items():
-        yield f"felica, {len(line)} characters at the end", well(lines(["NO 2 --", answer])), lambda: run("felica", given=lines(["F 02", line])[:-1])
+        yield f"felica, {len(line)} characters at the end", well(lines(["NO 2 --", answer])), lambda line=line: run("felica", given=lines(["F 02", line])[:-1])
 
 
 def long_inputs():
@@ -250,31 +360,47 @@ def long_inputs():
     record = bytes.fromhex(f"FF06{I8}010B1078") + b"\x80\0" * 119 + bytes(3)
     logs = b"\xff" + record
     for name, given, wanted in (
-        ("felica", (calls.removesuffix(b"\n") + b"\n") * 12, answers * 12),
+        ("felica", (calls.rstrip(b"\n") + b"\n") * 12, answers * 12),
         ("list_log", logs * 50000, listed(["OK 06 1 120 1 o"] * 50000) + b"TOTAL 50000 50000 0 6000000\n"),
     ):
-        yield f"{name}, {len(given)} bytes by a pipe", well(wanted), lambda: run(name, given=given)
-        yield f"{name}, {len(given)} bytes of a file", well(wanted), lambda: run_file(name, given)
-        yield f"{name}, a slow reader", well(sample(name)[1]), lambda: run_slow(name)
+        yield f"{name}, {len(given)} bytes by a pipe", well(wanted), lambda name=name, given=given: run(name, given=given)
+        yield f"{name}, {len(given)} bytes of a file", well(wanted), lambda name=name, given=given: run_file(name, given)
+        yield f"{name}, a slow reader", well(sample(name)[1]), lambda name=name: run_slow(name)
     million = range(1000000)
     calls = lines(f"F 0A04{n:016X}" if n % 3 else f"P 04{n:016X}" for n in million)
     yield "felica, a million lines", well(lines(f"OK 04 idm={n:016X}" for n in million)), lambda: run("felica", given=calls)
 
 
-TESTS = (answers_at_once, failures, call_in_arguments, usage_told, forms_of_calls, input_in_pieces, long_lines, long_inputs)
+TESTS = (
+    answers_at_once,
+    answers_to_pieces,
+    reads_that_fail,
+    writes_that_fail,
+    call_in_arguments,
+    words_as_lines,
+    usage_told,
+    usage_examples,
+    forms_of_calls,
+    input_in_pieces,
+    long_lines,
+    long_inputs,
+)
 
 
-def short(end):
-    """The same, its long outputs cut off."""
-    parts = end if isinstance(end, tuple) else (end,)
-    return ", ".join(f"{part[:60]} and so on, {len(part)} in all" if isinstance(part, bytes) and len(part) > 200 else repr(part) for part in parts)
+def short(it):
+    """The same, written so that nothing in it is long."""
+    if isinstance(it, (tuple, list)):
+        return ", ".join(map(short, it))
+    if isinstance(it, (bytes, str)) and len(it) > 200:
+        return f"{it[:60]!r} and so on, {len(it)} in all"
+    return repr(it)
 
 
 def differs(wanted, attempt, until):
     """What it comes to, if that is not what it must be."""
     try:
         got = attempt() if time.monotonic() < until else "not tried, for want of time"
-    except (OSError, subprocess.SubprocessError) as error:
+    except FAILURES as error:
         got = error
     return "" if got == wanted else f"{short(got)}; and not {short(wanted)}"
 
