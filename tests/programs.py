@@ -275,9 +275,8 @@ def words_as_lines():
         yield f"felica, {short(call)} as one word", (*wanted, 5), lambda call=call: run_unread("felica", call)
 
 
-# More characters than a call may have, in one word and in two.
-TOO_LONG = ["F " + "0" * 69998]
-HALVES_TOO_LONG = ["F " + "0" * 35000, "0" * 35000]
+# More characters than a call may have: in one word, in two, and in a second one behind as many as are read at once.
+TOO_LONG = (["F " + "0" * 69998], ["F " + "0" * 35000, "0" * 35000], ["F " + "0" * (PIECE - 2), "0"])
 
 
 def is_usage(name, text):
@@ -290,7 +289,7 @@ def usage_told():
         out, said, status, left = run_unread(name, *words)
         return is_usage(name, out) or out, is_usage(name, said) or said, status, left
 
-    both = (["--help", "--help"], ["-h"], ["--version"], [""], ["x"], ["-"], TOO_LONG, HALVES_TOO_LONG)
+    both = (["--help", "--help"], ["-h"], ["--version"], [""], ["x"], ["-"], *TOO_LONG)
     unknown = {
         "felica": (["f", "02"], ["FX", "02"], ["LONGER", "F", "02"], ["-F", "02"], ["--help", "F", "02"], ["F 02\nF 03"], ["F", "02\n"], ["P " + "0" * 65534]),
         "list_log": (["/dev/null"], ["--help\n"]),
@@ -326,6 +325,10 @@ def forms_of_calls():
         "F 0x0600FFFF0000": "BAD CALL: 0x in front of the bytes",
         "S 82 0X0901": "BAD CALL: 0x in front of the bytes",
         "W 6 00 blocks=00": "BAD CALL: unknown field: blocks",
+        "W 6 00 a_rather_long_name=1": "BAD CALL: unknown field: a_rather_long_n",
+        "W 6 00 a-b=1": "BAD CALL: unknown field: ?",
+        "W 6 00 a\rOK=1": "BAD CALL: unknown field: ?",
+        "W 6 00 =1": "BAD CALL: unknown field: -",
         "W 10 0C idm=12": "BAD CALL: malformed value: idm",
     }
     for call, answer in {**small, **faults}.items():
