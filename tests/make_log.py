@@ -2,7 +2,8 @@
 """make_log.py [--check]: writes crates/list_log/stdin, a log longer than two pieces of 65,536 bytes that ends within a record, and crates/list_log/stdout, its listing, longer than two as well.
 
 The listing is put together from what went into each record, and no frame is read: so it says what the program must print, and does not come from it. The log begins
-with document 01's sample, records stand across the ends of the pieces, and each run writes the same. No program is needed. With --check it writes nothing, and fails where what stands there is not what it would write.
+with document 01's sample, records stand across the ends of the pieces, and each run writes the same. No program is needed. With --check nothing is written, and the status is 1
+where what stands there differs.
 """
 import pathlib
 import sys

@@ -261,6 +261,7 @@ def words_as_lines():
         f"L F {READ} 1 0 1 1 1": CALLS[f"L F {READ} 1 0 1 1 1"],
         "P " + "0" * 65533: "BAD CALL: odd number of hexadecimal digits",
         "S 82 " + "0" * 65530: "BAD CALL: too many bytes",
+        "F" + " 000000000" * 6553 + " 000": "BAD CALL: blank inside the bytes",
         "W 6 00 \x1b[2K=1": "BAD CALL: unknown field: ?",
         "W 6 00 system=FFFF  slots=01": "BAD CALL: unknown field: -",
         "F 06 00": "BAD CALL: blank inside the bytes",
@@ -275,8 +276,8 @@ def words_as_lines():
         yield f"felica, {short(call)} as one word", (*wanted, 5), lambda call=call: run_unread("felica", call)
 
 
-# More characters than a call may have: in one word, in two, and in a second one behind as many as are read at once.
-TOO_LONG = (["F " + "0" * 69998], ["F " + "0" * 35000, "0" * 35000], ["F " + "0" * (PIECE - 2), "0"])
+# More characters than a call may have: in one word, in two, in a second one behind as many as are read at once, and by one in many words.
+TOO_LONG = (["F " + "0" * 69998], ["F " + "0" * 35000, "0" * 35000], ["F " + "0" * (PIECE - 2), "0"], ["F", *["000000000"] * 6553, "0000"])
 
 
 def is_usage(name, text):
@@ -291,7 +292,7 @@ def usage_told():
 
     both = (["--help", "--help"], ["-h"], ["--version"], [""], ["x"], ["-"], *TOO_LONG)
     unknown = {
-        "felica": (["f", "02"], ["FX", "02"], ["LONGER", "F", "02"], ["-F", "02"], ["--help", "F", "02"], ["F 02\nF 03"], ["F", "02\n"], ["P " + "0" * 65534]),
+        "felica": (["f", "02"], ["FX", "02"], ["LONGER", "F", "02"], ["-F", "02"], ["--help", "F", "02"], ["F 02\nF 03"], ["F", "02\n"], ["F", *["02"] * 38, "\n"], ["P " + "0" * 65534]),
         "list_log": (["/dev/null"], ["--help\n"]),
     }
     for name in ("felica", "list_log"):
@@ -332,7 +333,7 @@ def forms_of_calls():
         "W 10 0C idm=12": "BAD CALL: malformed value: idm",
     }
     for call, answer in {**small, **faults}.items():
-        yield f"felica, {call}", well(lines([answer])), lambda call=call: run("felica", given=lines([call]))
+        yield f"felica, {call!r}", well(lines([answer])), lambda call=call: run("felica", given=lines([call]))
 
 
 def input_in_pieces():
@@ -393,7 +394,8 @@ TESTS = (
 def short(it):
     """The same, written so that nothing in it is long."""
     if isinstance(it, (tuple, list)):
-        return ", ".join(map(short, it))
+        cut = [*it[:10], "and so on", *it[-10:]] if len(it) > 30 else it
+        return ", ".join(map(short, cut))
     if isinstance(it, (bytes, str)) and len(it) > 200:
         return f"{it[:60]!r} and so on, {len(it)} in all"
     return repr(it)
