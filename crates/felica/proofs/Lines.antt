@@ -4,7 +4,7 @@ use Rattle.std.proofs.Common.{ℕ, suc, ◌+◌, ◌≤◌, ◌<◌, ◌≡◌, 
 use Rattle.std.specs.Prelude.{None, Some}
 use Rattle.felica_text.specs.Text.{before as bytes_before, place_of}
 use Rattle.felica_text.proofs.Before.{take_before}
-use Rattle.felica.specs.Lines.{lines_from, max_line, LineText, OneOutput}
+use Rattle.felica.specs.Lines.{LinesExamples, lines_from, max_line, LineText, OneOutput}
 use Rattle.felica_calls.specs.Call.{without_cr}
 use Rattle.felica_answering.specs.Answers.{call_of}
 use Rattle.felica_answering.proofs.OneAnswer.{one_answer}
@@ -104,3 +104,7 @@ one_output [] a b is same = is ∙ sym same
 one_output (line ∷ lines) a b (text, rest, line_is, rest_is, is) (other, more, line_same, rest_same, same) =
     is ∙ ap (λ (x : List ℕ). x ++ (10 ∷ rest)) (one_text line text other line_is line_same)
     ∙ ap (λ (x : List ℕ). other ++ (10 ∷ x)) (one_output lines rest more rest_is rest_same) ∙ sym same
+
+pub lines_examples : LinesExamples
+unfolding lines_from
+lines_examples = (refl, refl, refl)

@@ -1,7 +1,8 @@
--- The answers to an input: a line for each of its lines.
+-- The answers to an input: a text for each of its lines, and a line feed behind it.
 -- Assumes nothing.
 use Rattle.std.specs.Prelude.{ℕ, ◌^◌, ◌-◌, ◌≡◌, ◌≤◌, ◌<◌, IfSome, cond, List, [], ◌∷◌, ◌++◌, length, eqb, Option}
 use Rattle.std.specs.Io.KnownBytes.{Appends}
+use Rattle.felica_text.specs.Text.{text}
 use Rattle.felica_calls.specs.Fault.{fault_text}
 use Rattle.felica_calls.specs.declared.fault.Fault.TheVariants.{LineTooLong}
 use Rattle.felica_answering.specs.Answers.{CallText}
@@ -17,6 +18,12 @@ lines_from before (b ∷ s) = cond (eqb b 10) (before ∷ lines_from [] s) (line
 
 abbrev pub lines_of : List ℕ → List (List ℕ)
 lines_of input = lines_from [] input
+
+-- a line, an empty one, and one without a line feed; and an input that ends in a line feed (proofs/Lines.antt)
+abbrev pub LinesExamples : Type 0
+LinesExamples =
+    (lines_of (text "F 02" ++ (10 ∷ 10 ∷ text "P 00")) ≡ text "F 02" ∷ [] ∷ text "P 00" ∷ [])
+    × (lines_of (text "F 02" ++ (10 ∷ [])) ≡ text "F 02" ∷ []) × (lines_of [] ≡ [])
 
 -- bytes of the longest line
 abbrev pub max_line : ℕ
