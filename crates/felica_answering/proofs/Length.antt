@@ -1,7 +1,6 @@
 -- No answer is longer than its room.
 -- Assumes nothing.
-use Rattle.std.proofs.Common.{ℕ, ◌≤◌, ◌<◌, ◌≡◌, List, length, length-take, length-drop, take, arith}
-use Rattle.std.proofs.Math.Nat.{min-le_right}
+use Rattle.std.proofs.Common.{ℕ, ◌≤◌, ◌<◌, ◌≡◌, List, length, length-drop, take, arith}
 use Rattle.std.proofs.lemmas.List.{length-replicate}
 use Rattle.std.specs.Prelude.{Ok, Err}
 use Rattle.felica_format.specs.Basic.{zeros}
@@ -15,7 +14,7 @@ use Rattle.felica_calls.specs.declared.source.Source.TheVariants.{Frame, Payload
 use Rattle.felica_calls.specs.declared.call.Call.TheVariants.{Parse, Long, List as ListCall, Write}
 use Rattle.felica_calls.proofs.Counts.{call_kept}
 use Rattle.felica_calls.proofs.Length.{fault_length}
-use Rattle.felica_answers.proofs.Length.{answer_length, long_length, list_length}
+use Rattle.felica_answers.proofs.Length.{take_few, answer_length, long_length, list_length}
 use Rattle.felica_writing.proofs.Length.{write_length}
 use Rattle.felica_answering.specs.Source.{reading_of, payload_in, body_at}
 use Rattle.felica_answering.specs.Lists.{lent}
@@ -34,7 +33,7 @@ payload_short (Secure code) s = omega arith
 
 bytes_short : (source : Source) (n : ℕ) (bytes : List ℕ) → length bytes ≤ max_call_bytes → length (payload_in source (take n bytes)) ≤ max_call_bytes
 bytes_short source n bytes h =
-    let few : length (take n bytes) ≤ length bytes = rw (length-take n bytes) (min-le_right n (length bytes)) in
+    let few = take_few n bytes in
     let short = payload_short source (take n bytes) in
     omega (arith, few, short, h)
 

@@ -135,7 +135,7 @@ part_few : (b : Bool) (at n : ℕ) → (blocks_part b at n).count ≤ n
 part_few true at n = omega arith
 part_few false at n = omega arith
 
-take_few : (n : ℕ) (l : List ℕ) → length (take n l) ≤ length l
+pub take_few : (n : ℕ) (l : List ℕ) → length (take n l) ≤ length l
 take_few n l = rw (length-take n l) (min-le_right n (length l))
 
 part_short : (s : List ℕ) (p : Part) → length (bytes_at s p) ≤ length s
