@@ -1,0 +1,181 @@
+#!/usr/bin/env python3
+"""documents.py: holds README.md and docs/ to what they speak of. Part of the gate; needs the program felica as rt ci leaves it (running.py).
+
+- Lines: README.md has at most 80 of at most 110 characters, prose in docs/ at most 120. Rows of tables, code and a long piece of code within a line may be longer.
+- Links lead to files that are there.
+- Commands: a block marked sh is run as it stands, and what it prints is the block marked text behind it. A block marked bash takes minutes or needs what is not here, and is not run.
+- Grounds and codes: the texts of docs/CALLS.md are those of include/felica.h, its commands the code's constants, the header's enum and the lines of docs/FORMAT.md.
+- Layouts: each line of docs/FORMAT.md is tried on felica: every value of each byte that has a range, every count, the body cut at each byte and one byte longer.
+"""
+import re
+import subprocess
+import sys
+
+from running import FAILURES, ROOT, run, stop_without
+
+PAGES = [ROOT / "README.md", *sorted((ROOT / "docs").glob("*.md"))]
+# What a run of rt try may take on a busy machine.
+COMMAND_SECONDS = 300
+
+
+def text_of(name):
+    return (ROOT / name).read_text()
+
+
+def blocks_of(page):
+    """The fenced blocks: what each is marked with, and its text."""
+    return re.findall(r"^```(\w*)\n(.*?)^```$", page.read_text(), re.S | re.M)
+
+
+def prose_of(page):
+    """Each line that is no code and no row of a table, with its number."""
+    fenced = False
+    for number, line in enumerate(page.read_text().splitlines(), 1):
+        fenced ^= line.startswith("```")
+        if not fenced and not line.startswith(("|", "    ", "```")):
+            yield number, line
+
+
+def long_lines():
+    readme = PAGES[0].read_text().splitlines()
+    if len(readme) > 80:
+        yield f"README.md has {len(readme)} lines"
+    yield from (f"README.md:{n}: {len(line)} characters" for n, line in enumerate(readme, 1) if len(line) > 110)
+    for page in PAGES[1:]:
+        for number, line in prose_of(page):
+            if len(line) > 120 and not re.search(r"`[^`]{80,}`", line) and not re.search(r"\b[0-9a-f]{40}$", line):
+                yield f"docs/{page.name}:{number}: {len(line)} characters"
+
+
+def dead_links():
+    for page in PAGES:
+        for target in re.findall(r"\]\(([^)#]+)\)", page.read_text()):
+            if not (page.parent / target).exists():
+                yield f"{page.name}: no file {target}"
+
+
+def wrong_commands():
+    for page in PAGES:
+        blocks = blocks_of(page)
+        for (mark, command), (behind, printed) in zip(blocks, blocks[1:] + [("", "")]):
+            if mark != "sh":
+                continue
+            shell = ["bash", "-euo", "pipefail", "-c", command]
+            ran = subprocess.run(shell, cwd=ROOT, stdout=subprocess.PIPE, text=True, timeout=COMMAND_SECONDS)
+            if ran.returncode or (behind == "text" and ran.stdout != printed):
+                yield f"{page.name}: status {ran.returncode} and {ran.stdout!r} of: {command.strip()}"
+
+
+def rows_of(page, heading):
+    """The cells of the table under a heading."""
+    section = text_of(f"docs/{page}").split(f"\n## {heading}\n")[1].split("\n## ")[0]
+    rows = [[cell.strip() for cell in line.strip("|").split("|")] for line in section.splitlines() if line.startswith("|")]
+    return rows[2:]
+
+
+def same(what, one, other):
+    if one != other:
+        differ = sorted(set(one.items()) ^ set(other.items())) if one.keys() == other.keys() else sorted(one.keys() ^ other.keys())
+        yield f"{what}: {differ}"
+
+
+def wrong_grounds():
+    page = {int(number): text for number, text in rows_of("CALLS.md", "Grounds")}
+    header = re.findall(r"^    FELICA_\w+ = (\d+),? +/\* (.*) \*/$", text_of("include/felica.h"), re.M)
+    yield from same("the grounds of docs/CALLS.md and of include/felica.h", page, {int(number): text for number, text in header})
+
+
+def wrong_codes():
+    page = {code: name.removesuffix(", secure").upper().replace(" ", "_") for code, name, _ in rows_of("CALLS.md", "Commands")}
+    constants = re.findall(r"const (\w+)_COMMAND_CODE: u8 = 0x(\w\w);", text_of("crates/felica_format/src/constants.rt"))
+    yield from same("the commands of docs/CALLS.md and of constants.rt", page, {code: name for name, code in constants})
+    yield from same("the codes of docs/CALLS.md and docs/FORMAT.md", dict.fromkeys(page), dict.fromkeys(layouts()))
+
+
+def layouts():
+    """The lines of docs/FORMAT.md: the parts of each code's body."""
+    lines = re.findall(r"^    ([0-9A-F]{2}) \|(.*)$", text_of("docs/FORMAT.md"), re.M)
+    return {code: [part.strip() for part in parts.split("|") if part.strip()] for code, parts in lines}
+
+
+def values_of(part):
+    """The values that a byte may have: of `request code 00..02` three, of `00` one, of `n 1..16` sixteen."""
+    last = part.split()[-1]
+    base = 10 if re.match(r"[nm] ", part) else 16
+    if ".." in last:
+        least, greatest = (int(bound, base) for bound in last.split(".."))
+        return range(least, greatest + 1)
+    return [int(value, 16) for value in last.split(",")]
+
+
+def entry_of(part):
+    """An entry of a list, by its size: a block list's is short here."""
+    size = int(part.split("×")[1].split()[0])
+    return bytes([0x80, 0]) if part.startswith("elements") else bytes(size)
+
+
+def pieces_of(parts):
+    """The parts as functions from a byte to a piece of the body, each with the bytes that are allowed. A count takes the lists behind it along."""
+    pieces = []
+    for at, part in enumerate(parts):
+        if "×" in part or part.endswith("rest"):
+            continue
+        if re.match(r"[nm] ", part):
+            lists = [entry_of(other) for other in parts[at + 1 :] if f" {part[0]} ×" in other]
+            pieces.append((lambda byte, lists=lists: bytes([byte]) + b"".join(entry * byte for entry in lists), values_of(part)))
+        elif re.fullmatch(r"00( 00)*", part):
+            pieces += [(lambda byte: bytes([byte]), [0])] * len(part.split())
+        elif re.search(r" \d{1,2}$", part):
+            pieces.append((lambda byte, size=int(part.split()[-1]): bytes([byte]) * size, range(256)))
+        else:
+            pieces.append((lambda byte: bytes([byte]), values_of(part)))
+    return pieces
+
+
+def bodies_of(parts):
+    """Bodies, each with whether the line allows it."""
+    pieces = pieces_of(parts)
+    plain = [make(1 if 1 in allowed else 0) for make, allowed in pieces]
+    body = b"".join(plain)
+    for at, (make, allowed) in enumerate(pieces):
+        for byte in range(256):
+            yield b"".join(plain[:at] + [make(byte)] + plain[at + 1 :]), byte in allowed
+    yield from ((body[:size], False) for size in range(len(body)))
+    yield body + b"\0", any(part.endswith("rest") for part in parts)
+    if b"\x80\0" in body:
+        # In the long form, and in the long form with a byte too few.
+        yield body.replace(b"\x80\0", b"\0\0\1"), True
+        yield body.replace(b"\x80\0", b"\0\0"), False
+
+
+def wrong_layouts():
+    sections = text_of("docs/FORMAT.md").split("## Secure bodies")
+    calls, wanted = [], []
+    for code, parts in layouts().items():
+        secure = re.search(rf"^    {code} \|", sections[1], re.M)
+        for body, allowed in bodies_of(parts):
+            calls.append(f"S {code} {body.hex() or '-'}" if secure else f"P {code}{body.hex()}")
+            wanted.append(f"OK {code}" if allowed else "NO ")
+    answers = run("felica", given="".join(f"{call}\n" for call in calls).encode())[0].decode().splitlines()
+    if len(answers) != len(calls):
+        yield f"{len(calls)} bodies and {len(answers)} answers"
+    for call, answer, start in zip(calls, answers, wanted):
+        if not answer.startswith(start):
+            yield f"docs/FORMAT.md: {call[:80]} is answered by {answer[:80]}"
+
+
+def main():
+    stop_without("felica")
+    checks = (long_lines, dead_links, wrong_grounds, wrong_codes, wrong_layouts, wrong_commands)
+    found = []
+    for check in checks:
+        try:
+            found += check()
+        except FAILURES as failure:
+            found.append(f"{check.__name__}: {failure}")
+    print("".join(f"{line}\n" for line in found[:40]) + f"{len(PAGES)} documents, {len(layouts())} layouts: {len(found)} differ")
+    return 1 if found else 0
+
+
+if __name__ == "__main__":
+    sys.exit(main())
