@@ -81,8 +81,9 @@ def same(what, one, other):
 
 def wrong_grounds():
     page = {int(number): text for number, text in rows_of("CALLS.md", "Grounds")}
-    header = re.findall(r"^    FELICA_\w+ = (\d+),? +/\* (.*) \*/$", text_of("include/felica.h"), re.M)
-    yield from same("the grounds of docs/CALLS.md and of include/felica.h", page, {int(number): text for number, text in header})
+    enum = text_of("include/felica.h").split("enum felica_refusal {")[1].split("};")[0]
+    header = {int(number): text for number, text in re.findall(r"= (\d+),? +/\* (.*) \*/$", enum, re.M) if number != "0"}
+    yield from same("the grounds of docs/CALLS.md and of include/felica.h", page, header)
 
 
 def wrong_codes():
