@@ -6,6 +6,7 @@
 - Commands: a block marked sh is run as it stands, and what it prints is the block marked text behind it. A block marked bash takes minutes or needs what is not here, and is not run.
 - Grounds and codes: the texts of docs/CALLS.md are those of include/felica.h, its commands the code's constants, the header's enum and the lines of docs/FORMAT.md.
 - Layouts: each line of docs/FORMAT.md is tried on felica: every value of each byte that has a range, every count, the body cut at each byte and one byte longer.
+- Fields: those that docs/CALLS.md gives a command are those of felica's answer, in its order.
 """
 import re
 import subprocess
@@ -75,8 +76,8 @@ def rows_of(page, heading):
 
 def same(what, one, other):
     if one != other:
-        differ = sorted(set(one.items()) ^ set(other.items())) if one.keys() == other.keys() else sorted(one.keys() ^ other.keys())
-        yield f"{what}: {differ}"
+        differ = [key for key in sorted(one.keys() | other.keys()) if one.get(key) != other.get(key)]
+        yield f"{what} differ at {differ}"
 
 
 def wrong_grounds():
@@ -138,6 +139,7 @@ def bodies_of(parts):
     pieces = pieces_of(parts)
     plain = [make(1 if 1 in allowed else 0) for make, allowed in pieces]
     body = b"".join(plain)
+    yield body, True
     for at, (make, allowed) in enumerate(pieces):
         for byte in range(256):
             yield b"".join(plain[:at] + [make(byte)] + plain[at + 1 :]), byte in allowed
@@ -149,25 +151,38 @@ def bodies_of(parts):
         yield body.replace(b"\x80\0", b"\0\0"), False
 
 
-def wrong_layouts():
-    sections = text_of("docs/FORMAT.md").split("## Secure bodies")
-    calls, wanted = [], []
-    for code, parts in layouts().items():
-        secure = re.search(rf"^    {code} \|", sections[1], re.M)
-        for body, allowed in bodies_of(parts):
-            calls.append(f"S {code} {body.hex() or '-'}" if secure else f"P {code}{body.hex()}")
-            wanted.append(f"OK {code}" if allowed else "NO ")
+def call_of(code, body):
+    """The call that asks for a body, of a secure code if the page has it among these."""
+    plain, _ = text_of("docs/FORMAT.md").split("\n## Secure bodies\n")
+    return f"P {code}{body.hex()}" if f"\n    {code} |" in plain else f"S {code} {body.hex() or '-'}"
+
+
+def answers_to(calls):
     answers = run("felica", given="".join(f"{call}\n" for call in calls).encode())[0].decode().splitlines()
     if len(answers) != len(calls):
-        yield f"{len(calls)} bodies and {len(answers)} answers"
-    for call, answer, start in zip(calls, answers, wanted):
-        if not answer.startswith(start):
+        raise ValueError(f"{len(calls)} calls and {len(answers)} answers")
+    return answers
+
+
+def wrong_layouts():
+    tried = [(code, body, allowed) for code, parts in layouts().items() for body, allowed in bodies_of(parts)]
+    calls = [call_of(code, body) for code, body, _ in tried]
+    for (code, _, allowed), call, answer in zip(tried, calls, answers_to(calls)):
+        if not answer.startswith(f"OK {code}" if allowed else "NO "):
             yield f"docs/FORMAT.md: {call[:80]} is answered by {answer[:80]}"
+
+
+def wrong_fields():
+    accepted = {code: next(bodies_of(parts))[0] for code, parts in layouts().items()}
+    answers = answers_to([call_of(code, body) for code, body in accepted.items()])
+    given = {code: re.findall(r"(\w+)=", answer) for code, answer in zip(accepted, answers)}
+    page = {code: re.findall(r"`(\w+)`", fields) for code, _, fields in rows_of("CALLS.md", "Commands")}
+    yield from (f"docs/CALLS.md: {code} has {given[code]}" for code in page if page[code] != given.get(code))
 
 
 def main():
     stop_without("felica")
-    checks = (long_lines, dead_links, wrong_grounds, wrong_codes, wrong_layouts, wrong_commands)
+    checks = (long_lines, dead_links, wrong_grounds, wrong_codes, wrong_layouts, wrong_fields, wrong_commands)
     found = []
     for check in checks:
         try:
