@@ -44,7 +44,7 @@
 
 /* That of the package rust/felica. While MAJOR is 0, another MINOR may ask callers to be changed. */
 #define FELICA_VERSION_MAJOR 0
-#define FELICA_VERSION_MINOR 1
+#define FELICA_VERSION_MINOR 2
 
 #ifdef __cplusplus
 extern "C" {

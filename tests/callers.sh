@@ -12,7 +12,7 @@ fail() {
 }
 
 [ -f "$archive" ] || fail "target/staticlib/libfelica_c.a is missing; make it with: bash c/archive"
-for tool in gcc g++ cargo nm size; do
+for tool in gcc g++ cargo rustdoc nm size; do
     command -v "$tool" > /dev/null || fail "$tool is missing"
 done
 
@@ -80,6 +80,15 @@ try_archive() {
     size "$archive" | awk 'NR > 1 && $2 + $3 > 0 { data = 1 } END { exit data }' || fail "the archive has data"
 }
 
+# Runs the tests of rust/felica (--tests) or the examples in its documentation (--doc), and says how many ran.
+run_rust() {
+    (cd rust/felica && cargo test --quiet --release --offline "$1" > "$work/out" 2>&1) || {
+        cat "$work/out" >&2
+        fail "cargo test $1"
+    }
+    awk '/^test result: ok\./ { ran += $4 } END { print ran + 0; exit ran == 0 }' "$work/out" || fail "cargo test $1 ran no test"
+}
+
 gcc -std=c11 "${warnings[@]}" -fsyntax-only -x c include/felica.h
 echo "header as C11: ok"
 g++ -std=c++17 "${warnings[@]}" -fsyntax-only -x c++ include/felica.h
@@ -111,12 +120,9 @@ else
 fi
 
 export CARGO_TARGET_DIR=$root/target/callers FELICA_LIB=$root/target/staticlib
-(cd rust/felica && cargo test --quiet --release --offline > "$work/out" 2>&1) || {
-    cat "$work/out" >&2
-    fail "cargo test"
-}
-grep -E '^test result: ok\. [1-9]' "$work/out" > "$work/passed" || fail "cargo test ran no test"
-echo "Rust, $(sed -E 's/.* ([0-9]+) passed.*/\1/' "$work/passed") tests: ok"
+tests=$(run_rust --tests)
+examples=$(run_rust --doc)
+echo "Rust, $tests tests and $examples examples: ok"
 
 status=0
 FELICA_LIB=$work cargo check --quiet --offline --manifest-path rust/felica/Cargo.toml > "$work/out" 2>&1 || status=$?
