@@ -23,8 +23,8 @@ struct bytes {
 
 struct command {
     uint8_t code;
-    uint8_t idm[8];
-    uint8_t challenge[16];
+    uint8_t idm[FELICA_IDM_SIZE];
+    uint8_t challenge[FELICA_CHALLENGE_SIZE];
     uint16_t fields[FELICA_FIELDS];
     size_t parts[FELICA_PARTS];
     uint16_t first[FELICA_MAX_CODES];
@@ -55,8 +55,8 @@ static const char *const grounds[] = {
     "empty frame",
     "length byte is not the frame's size",
     "payload empty",
-    "secure code in a plain frame",
-    "code unknown",
+    "secure code in a plain frame or payload",
+    "code unknown here",
     "IDm missing",
     "too short",
     "bytes past the layout",
@@ -73,7 +73,7 @@ static const char *const grounds[] = {
     "request code, encryption type or property type undefined",
     "time slots or packet type undefined",
     "lent buffer too small",
-    "no accepted frame gives this command",
+    "no accepted frame or secure payload gives this command",
 };
 
 static const char *ground(uint8_t refusal) {
@@ -131,14 +131,16 @@ static void print_codes(const char *name, const uint16_t *codes, size_t count) {
 
 static void print_fixed(const struct command *command) {
     const uint16_t *fields = command->fields;
-    if (command->code != 0x00 && command->code != 0x2E && command->code != 0x70) {
+    if (command->code != FELICA_POLLING_COMMAND_CODE && command->code != FELICA_GET_CONTAINER_PROPERTY_COMMAND_CODE &&
+        command->code != FELICA_GET_CONTAINER_ID_COMMAND_CODE) {
         print_bytes("IDm", command->idm, sizeof command->idm);
     }
-    if (command->code == 0x10 || command->code == 0x12) {
+    if (command->code == FELICA_AUTHENTICATION1_COMMAND_CODE || command->code == FELICA_AUTHENTICATION2_COMMAND_CODE) {
         print_bytes("challenge", command->challenge, 8);
     }
-    if (command->code == 0x40 || command->code == 0x42) {
-        print_bytes("challenge", command->challenge, 16);
+    if (command->code == FELICA_AUTHENTICATION1_V2_COMMAND_CODE ||
+        command->code == FELICA_AUTHENTICATION2_V2_COMMAND_CODE) {
+        print_bytes("challenge", command->challenge, sizeof command->challenge);
     }
     printf("  selector %02X, number %04X, index %04X, option %02X, choice %02X\n", fields[FELICA_SELECTOR],
            fields[FELICA_NUMBER], fields[FELICA_INDEX], fields[FELICA_OPTION], fields[FELICA_CHOICE]);
@@ -184,7 +186,7 @@ static struct felica_written write_again(const struct command *command, const ui
 static void print_written(const struct bytes *frame, const struct command *command, const uint8_t *payload) {
     struct bytes out = {{0}, 0};
     struct felica_written written = write_again(command, payload, &out);
-    if (written.refusal != 0) {
+    if (written.refusal != FELICA_OK) {
         printf("  not written: %u, %s\n", written.refusal, ground(written.refusal));
     } else if (written.length == frame->count && memcmp(out.at, frame->at, frame->count) == 0) {
         printf("  written back: the same bytes\n");
@@ -205,10 +207,10 @@ static void print_frame(const struct bytes *frame) {
     struct command command = {0};
     struct felica_answer answer =
         felica_parse_frame(frame->at, frame->count, command.idm, command.challenge, command.fields, command.parts);
-    if (answer.refusal == 0) {
+    if (answer.refusal == FELICA_OK) {
         answer = list(frame, &command);
     }
-    if (answer.refusal != 0) {
+    if (answer.refusal != FELICA_OK) {
         print_refusal(answer);
         return;
     }

@@ -4,12 +4,25 @@
  */
 #include "felica.h"
 
+#include <assert.h>
+#include <stddef.h>
 #include <stdio.h>
 #include <string.h>
 
+/* What the archive was compiled with (crates/felica_c_parse_frame/src/lib.rt, crates/felica_c/src/answer.rt). */
+static_assert(FELICA_IDM_SIZE == 8, "bytes of idm");
+static_assert(FELICA_CHALLENGE_SIZE == 16, "bytes of challenge");
+static_assert(FELICA_FIELDS == 5, "numbers of fields");
+static_assert(FELICA_PARTS == 10, "numbers of parts");
+static_assert(sizeof(struct felica_answer) == 4 && offsetof(struct felica_answer, code) == 1 &&
+                  offsetof(struct felica_answer, long_count) == 2,
+              "layout of an answer");
+static_assert(sizeof(struct felica_written) == 16 && offsetof(struct felica_written, length) == 8,
+              "layout of what the writer answers");
+
 struct lent {
-    uint8_t idm[8];
-    uint8_t challenge[16];
+    uint8_t idm[FELICA_IDM_SIZE];
+    uint8_t challenge[FELICA_CHALLENGE_SIZE];
     uint16_t fields[FELICA_FIELDS];
     size_t parts[FELICA_PARTS];
 };
@@ -51,15 +64,15 @@ static void commands(void) {
     struct lent lent = filled();
     struct felica_answer answer =
         felica_parse_frame(polling, sizeof polling, lent.idm, lent.challenge, lent.fields, lent.parts);
-    expect(is(answer, 0, 0x00) && same(&lent, &of_polling), "Polling");
+    expect(is(answer, FELICA_OK, 0x00) && same(&lent, &of_polling), "Polling");
     lent = filled();
     answer = felica_parse_payload(authentication + 1, sizeof authentication - 1, lent.idm, lent.challenge, lent.fields,
                                   lent.parts);
-    expect(is(answer, 0, 0x10) && same(&lent, &of_authentication), "Authentication1");
+    expect(is(answer, FELICA_OK, 0x10) && same(&lent, &of_authentication), "Authentication1");
     lent = filled();
     static const struct lent of_8e = {{0}, {0}, {0}, {0}};
     answer = felica_parse_secure_payload(0x8E, polling, 0, lent.idm, lent.challenge, lent.fields, lent.parts);
-    expect(is(answer, 0, 0x8E) && same(&lent, &of_8e), "8E");
+    expect(is(answer, FELICA_OK, 0x8E) && same(&lent, &of_8e), "8E");
 }
 
 /* A read of the blocks 0, short, 0 and 256, long; then the last byte is missing. */
@@ -68,7 +81,7 @@ static void long_forms(void) {
     struct lent lent = filled();
     struct felica_answer answer =
         felica_parse_secure_payload(0x14, payload, sizeof payload, lent.idm, lent.challenge, lent.fields, lent.parts);
-    expect(answer.refusal == 0 && answer.code == 0x14 && answer.long_count == 2, "two long elements");
+    expect(answer.refusal == FELICA_OK && answer.code == 0x14 && answer.long_count == 2, "two long elements");
     answer = felica_parse_secure_payload(0x14, payload, sizeof payload - 1, lent.idm, lent.challenge, lent.fields,
                                          lent.parts);
     expect(is(answer, FELICA_LONG_BLOCK_NUMBER_MISSING, 0x14), "the last long element cut off");
@@ -101,7 +114,8 @@ static void too_small(void) {
     expect(codes[0] == 7 && codes[1] == 7 && codes[2] == 7 && bytes[0] == 7 && bytes[1] == 7, "buffers after 21");
     answer = felica_list_payload(frame + 1, sizeof frame - 1, codes, 1, codes + 1, 1, codes + 2, 1, bytes, 1, bytes + 1,
                                  1, lent.idm, lent.challenge, lent.fields, lent.parts);
-    expect(is(answer, 0, 0x02) && lent.parts[FELICA_FIRST_START] == 10 && codes[0] == 0x100B, "list of one code");
+    expect(is(answer, FELICA_OK, 0x02) && lent.parts[FELICA_FIRST_START] == 10 && codes[0] == 0x100B,
+           "list of one code");
     expect(codes[1] == 7 && codes[2] == 7 && bytes[0] == 7 && bytes[1] == 7, "buffers without a list");
 }
 

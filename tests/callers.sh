@@ -1,6 +1,6 @@
 #!/usr/bin/env bash
 # Holds include/felica.h, the programs of c/ and rust/felica to the archive target/staticlib/libfelica_c.a.
-# A line for each test; the last is "callers: ok". Needs gcc, g++ and cargo.
+# A line for each test; the last is "callers: ok". Needs gcc, g++, binutils and cargo.
 set -euo pipefail
 cd "$(dirname "$0")/.."
 root=$PWD
@@ -12,7 +12,7 @@ fail() {
 }
 
 [ -f "$archive" ] || fail "target/staticlib/libfelica_c.a is missing; make it with: bash c/archive"
-for tool in gcc g++ cargo; do
+for tool in gcc g++ cargo rustdoc nm size; do
     command -v "$tool" > /dev/null || fail "$tool is missing"
 done
 
@@ -47,10 +47,57 @@ try_bad() {
     [ "$(grep -c refused: "$work/out")" -eq 2 ] || fail "the example stops at bad hexadecimal"
 }
 
+# An enum of the header, a line each: the name behind FELICA_, the value, and the comment as far as a semicolon.
+enumerators() {
+    sed -nE "/^enum $1 /,/^}/ s/^ *FELICA_(\w+) = (\w+),? *(\/\* ([^;]*)(;.*)? \*\/)?$/\1 \2 \4/p" include/felica.h
+}
+
+# The codes and the grounds of the header are those of felica_format, and the example says the grounds in its words.
+try_names() {
+    local format=crates/felica_format/src
+    sed -nE 's/^pub const (\w+_COMMAND_CODE): u8 = (\w+);$/\1 \2 /p' "$format/constants.rt" > "$work/codes"
+    [ "$(wc -l < "$work/codes")" -eq 33 ] || fail "$format/constants.rt has not 33 codes"
+    enumerators felica_code | diff "$work/codes" - || fail "the header's codes are not those of $format/constants.rt"
+
+    sed -nE 's/^ +(\w+) = ([0-9]+),$/\1 \2/p' "$format/error.rt" | sed -E 's/([a-z])([A-Z])/\1_\2/g; s/.*/\U&/' > "$work/grounds"
+    [ "$(wc -l < "$work/grounds")" -eq 22 ] || fail "$format/error.rt has not 22 grounds"
+    enumerators felica_refusal | grep -v '^OK 0 ' > "$work/refusals"
+    cut -d ' ' -f 1,2 "$work/refusals" | diff "$work/grounds" - || fail "the header's grounds are not those of $format/error.rt"
+
+    sed -n '/ grounds\[\] = {/,/^}/ s/^    "\(.*\)",$/\1/p' c/example.c | grep -vx 'a command' > "$work/texts"
+    cut -d ' ' -f 3- "$work/refusals" | diff "$work/texts" - || fail "c/example.c says the grounds in other words than the header"
+}
+
+# What the header says of the archive: its functions and no other, what the writer needs from outside and the others do not, and no data.
+try_archive() {
+    sed -nE 's/^struct \w+ (felica_\w+)\(.*/\1/p' include/felica.h | sort > "$work/declared"
+    [ "$(wc -l < "$work/declared")" -eq 7 ] || fail "the header does not declare seven functions"
+    nm --defined-only --extern-only "$archive" | awk 'NF == 3 { print $3 }' | sort | diff "$work/declared" - ||
+        fail "the archive does not define the header's functions alone"
+    printf 'felica_c_write.o %s\n' memcpy memmove memset > "$work/needed"
+    nm --undefined-only --print-file-name "$archive" | sed -E 's/.*:(\w+\.o): +U (\w+)$/\1 \2/' | diff "$work/needed" - ||
+        fail "the archive does not need what the header says"
+    size "$archive" | awk 'NR > 1 && $2 + $3 > 0 { data = 1 } END { exit data }' || fail "the archive has data"
+}
+
+# Runs the tests of rust/felica (--tests) or the examples in its documentation (--doc), and says how many ran.
+run_rust() {
+    (cd rust/felica && cargo test --quiet --release --offline "$1" > "$work/out" 2>&1) || {
+        cat "$work/out" >&2
+        fail "cargo test $1"
+    }
+    awk '/^test result: ok\./ { ran += $4 } END { print ran + 0; exit ran == 0 }' "$work/out" || fail "cargo test $1 ran no test"
+}
+
 gcc -std=c11 "${warnings[@]}" -fsyntax-only -x c include/felica.h
 echo "header as C11: ok"
 g++ -std=c++17 "${warnings[@]}" -fsyntax-only -x c++ include/felica.h
 echo "header as C++17: ok"
+
+try_names
+echo "names in the header: ok"
+try_archive
+echo "symbols of the archive: ok"
 
 build_example "$work/example"
 try_example "$work/example"
@@ -73,12 +120,9 @@ else
 fi
 
 export CARGO_TARGET_DIR=$root/target/callers FELICA_LIB=$root/target/staticlib
-(cd rust/felica && cargo test --quiet --release --offline > "$work/out" 2>&1) || {
-    cat "$work/out" >&2
-    fail "cargo test"
-}
-grep -E '^test result: ok\. [1-9]' "$work/out" > "$work/passed" || fail "cargo test ran no test"
-echo "Rust, $(sed -E 's/.* ([0-9]+) passed.*/\1/' "$work/passed") tests: ok"
+tests=$(run_rust --tests)
+examples=$(run_rust --doc)
+echo "Rust, $tests tests and $examples examples: ok"
 
 status=0
 FELICA_LIB=$work cargo check --quiet --offline --manifest-path rust/felica/Cargo.toml > "$work/out" 2>&1 || status=$?

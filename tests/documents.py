@@ -4,7 +4,7 @@
 - Lines: README.md has at most 80 of at most 110 characters, prose in docs/ at most 120. Rows of tables, code and a long piece of code within a line may be longer.
 - Links lead to files that are there.
 - Commands: a block marked sh is run as it stands, and what it prints is the block marked text behind it. A block marked bash takes minutes or needs what is not here, and is not run.
-- Grounds and codes: the texts of docs/CALLS.md are those of include/felica.h, its commands the code's constants, the header's enum and the lines of docs/FORMAT.md.
+- Grounds and codes: those of docs/CALLS.md are those of include/felica.h, which tests/callers.sh holds to the code, and its codes those of docs/FORMAT.md.
 - Layouts: each line of docs/FORMAT.md is tried on felica: every value of each byte that has a range, every count, the body cut at each byte and one byte longer.
 - Fields: those that docs/CALLS.md gives a command are those of felica's answer, in its order.
 """
@@ -89,8 +89,8 @@ def wrong_grounds():
 
 def wrong_codes():
     page = {code: name.removesuffix(", secure").upper().replace(" ", "_") for code, name, _ in rows_of("CALLS.md", "Commands")}
-    constants = re.findall(r"const (\w+)_COMMAND_CODE: u8 = 0x(\w\w);", text_of("crates/felica_format/src/constants.rt"))
-    yield from same("the commands of docs/CALLS.md and of constants.rt", page, {code: name for name, code in constants})
+    header = {code: name for name, code in re.findall(r"FELICA_(\w+)_COMMAND_CODE = 0x(\w\w)", text_of("include/felica.h"))}
+    yield from same("the commands of docs/CALLS.md and of include/felica.h", page, header)
     yield from same("the codes of docs/CALLS.md and docs/FORMAT.md", dict.fromkeys(page), dict.fromkeys(layouts()))
 
 

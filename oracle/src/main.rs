@@ -7,6 +7,7 @@ mod cases;
 mod check_lists;
 mod check_memory;
 mod check_writer;
+mod clock;
 mod compare;
 #[allow(dead_code, unused_imports)]
 mod felica_rs;

@@ -1,4 +1,5 @@
-//! Ratios to felica-rs and to plain Rust on the same inputs: how many times as fast ours is, the median of several rounds.
+//! Ratios to felica-rs and to plain Rust on the same inputs: how many times as fast ours is by processor time, the median of several rounds.
+use crate::clock;
 use crate::felica_rs::felica_standard::FelicaStandardCommand as C;
 use crate::samples::{Sample, Set, sets};
 use crate::values::Kind;
@@ -10,7 +11,7 @@ use std::fs::{self, File};
 use std::hint::black_box;
 use std::path::Path;
 use std::process::{Command, Stdio};
-use std::time::{Duration, Instant};
+use std::time::Duration;
 
 const ROUNDS: usize = 21;
 
@@ -102,9 +103,9 @@ fn once(set: &str, work: &str) -> bool {
 }
 
 fn round((_, work): &mut Work) -> Duration {
-    let start = Instant::now();
+    let start = clock::of_thread();
     (0..TURNS).for_each(|_| work());
-    start.elapsed()
+    clock::of_thread() - start
 }
 
 /// The median of the ratios of rounds that follow one another, with our time in that round.
@@ -254,8 +255,8 @@ fn listed(path: &Path, words: &[&str], log: &Path) -> Vec<u8> {
 }
 
 fn timed(path: &Path, words: &[&str], log: &Path) -> Duration {
-    let start = Instant::now();
+    let start = clock::of_children();
     let status = program(path, words, log).stdout(Stdio::null()).status().expect("it ran before");
     assert!(status.success());
-    start.elapsed()
+    clock::of_children() - start
 }

@@ -89,7 +89,7 @@ impl Values {
 
 impl From<felica::Refusal> for Refusal {
     fn from(refusal: felica::Refusal) -> Self {
-        Refusal { number: refusal.number, code: refusal.code }
+        Refusal { number: refusal.number(), code: refusal.code }
     }
 }
 

@@ -2,9 +2,11 @@
 //! and writer.
 
 use felica::{
-    Buffers, Command, Handed, Parsed, Part, Refusal, list_frame, list_payload, list_secure_payload, parse_frame,
-    parse_payload, parse_secure_payload, write,
+    Buffers, Command, Ground, Handed, MAX_BLOCKS, MAX_CODES, MAX_FRAME, Parsed, Part, Refusal, list_frame,
+    list_payload, list_secure_payload, parse_frame, parse_payload, parse_secure_payload, write,
 };
+
+const HEADER: &str = include_str!("../../../include/felica.h");
 
 const I8: [u8; 8] = [1, 2, 3, 4, 5, 6, 7, 8];
 
@@ -14,8 +16,8 @@ fn bytes(text: &str) -> Vec<u8> {
     text.split_whitespace().map(|pair| u8::from_str_radix(pair, 16).unwrap()).collect()
 }
 
-fn refusal<T>(number: u8, code: u8) -> Result<T, Refusal> {
-    Err(Refusal { number, code: Some(code) })
+fn refusal<T>(number: u8, code: impl Into<Option<u8>>) -> Result<T, Refusal> {
+    Err(Refusal { ground: Ground::from_number(number).unwrap(), code: code.into() })
 }
 
 fn part(start: usize, count: usize) -> Part {
@@ -139,7 +141,7 @@ fn fixed_fields_stand_in_their_places() {
 fn each_ground_refuses_its_example() {
     let without_code = [(1, ""), (2, "02"), (3, "01")];
     for (number, frame) in without_code {
-        assert_eq!(parse_frame(&bytes(frame)), Err(Refusal { number, code: None }), "{frame}");
+        assert_eq!(parse_frame(&bytes(frame)), refusal(number, None), "{frame}");
     }
     let with_code = [
         (4, 0x14, "02 14"),
@@ -164,7 +166,7 @@ fn each_ground_refuses_its_example() {
     for (number, code, frame) in with_code {
         assert_eq!(parse_frame(&bytes(frame)), refusal(number, code), "{frame}");
     }
-    assert_eq!(parse_payload(&[]), Err(Refusal { number: 3, code: None }));
+    assert_eq!(parse_payload(&[]), refusal(3, None));
 }
 
 #[test]
@@ -385,7 +387,7 @@ fn a_secure_command_is_written_as_its_payload() {
 
 /// Lists `payload` by `list`, writes the command back and gives the bytes.
 fn written_back(payload: &[u8], list: impl Fn(Buffers<'_>) -> Result<Parsed, Refusal>) -> Vec<u8> {
-    let mut owned = Owned::new([32, 32, 255, 255, 255]);
+    let mut owned = Owned::new([MAX_CODES, MAX_CODES, MAX_BLOCKS, MAX_BLOCKS, MAX_BLOCKS]);
     let command = list(owned.lend()).unwrap().command;
     let blocks = command.block_list.count;
     let bytes_of = |part: Part| &payload[part.start..part.start + part.count];
@@ -450,4 +452,67 @@ fn long_forms_and_tails_are_not_written_back() {
     let payload = bytes("01 80 05 AA BB");
     let back = written_back(&payload, |buffers| list_secure_payload(0x14, &payload, buffers));
     assert_eq!(back, bytes("01 80 05"));
+}
+
+/// The lines of the header, with one space between words.
+fn header_lines() -> Vec<String> {
+    HEADER.lines().map(|line| line.split_whitespace().collect::<Vec<_>>().join(" ")).collect()
+}
+
+/// `LongBlockNumberMissing` as `FELICA_LONG_BLOCK_NUMBER_MISSING`.
+fn name_in_c(name: &str) -> String {
+    let mut in_c = String::from("FELICA");
+    for letter in name.chars() {
+        if letter.is_uppercase() {
+            in_c.push('_');
+        }
+        in_c.push(letter.to_ascii_uppercase());
+    }
+    in_c
+}
+
+#[test]
+fn grounds_have_the_names_numbers_and_texts_of_the_header() {
+    let lines = header_lines();
+    for ground in Ground::ALL {
+        let start = format!("{} = {}", name_in_c(&format!("{ground:?}")), ground.number());
+        let is_there = |line: &String| {
+            let comment = line.strip_prefix(&start).map(|rest| rest.trim_start_matches(',').trim_start());
+            let text = comment.and_then(|comment| comment.strip_prefix(&format!("/* {ground}")));
+            text.is_some_and(|rest| rest == " */" || rest.starts_with(';'))
+        };
+        assert_eq!(lines.iter().filter(|line| is_there(line)).count(), 1, "{start}: {ground}");
+    }
+}
+
+#[test]
+fn each_number_from_1_to_22_is_that_of_one_ground() {
+    for (number, ground) in (1..).zip(Ground::ALL) {
+        assert_eq!(ground.number(), number);
+        assert_eq!(Ground::from_number(number), Some(ground));
+    }
+    assert_eq!([0, 23, 255].map(Ground::from_number), [None; 3]);
+}
+
+#[test]
+fn limits_and_version_are_those_of_the_header() {
+    let lines = header_lines();
+    let defined = [
+        format!("FELICA_MAX_FRAME = {MAX_FRAME},"),
+        format!("FELICA_MAX_CODES = {MAX_CODES},"),
+        format!("FELICA_MAX_BLOCKS = {MAX_BLOCKS} "),
+        format!("#define FELICA_VERSION_MAJOR {}", env!("CARGO_PKG_VERSION_MAJOR")),
+        format!("#define FELICA_VERSION_MINOR {}", env!("CARGO_PKG_VERSION_MINOR")),
+    ];
+    for start in defined {
+        assert!(lines.iter().any(|line| line.starts_with(&start)), "{start}");
+    }
+}
+
+#[test]
+fn a_refusal_says_its_number_its_code_and_its_ground() {
+    let said = |frame: &str| parse_frame(&bytes(frame)).unwrap_err().to_string();
+    assert_eq!(said("02 04"), "refusal 6 of command 04: IDm missing");
+    assert_eq!(said(""), "refusal 1: empty frame");
+    assert_eq!(format!("{:12}|", Ground::EmptyFrame), "empty frame |");
 }
