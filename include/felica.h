@@ -32,7 +32,8 @@
  *
  * Another processor, such as that of a card, has no archive. But the card's own parser can be held to this one on the
  * host: both are given the same frame, and must tell the same refusal, code, fields and parts. crates/felica/stdin has
- * 8,000 calls for this, a line each, and crates/felica/stdout the right answers.
+ * some 6,400 frames and payloads for this among its lines (those that begin with F, P or S), and crates/felica/stdout
+ * the right answers, in refusal, code and fields; docs/CALLS.md has their form.
  *
  * Codes in comments are hexadecimal, counts and refusal numbers decimal.
  */
@@ -274,12 +275,12 @@ struct felica_answer felica_list_secure_payload(uint8_t command_code, const uint
  * behind it keep their values. The parser reads what was written as the command handed in.
  *
  * A field that the command lacks must be zero, idm and challenge too, and a list that it lacks empty. Of 10 and 12 the
- * last eight bytes of challenge must be zero. 22 comes exactly when no accepted frame
- * and no accepted secure payload gives the command: among other things where a field or a list is there that the
- * command lacks, a value is undefined, a count is outside its range, `numbers`, `places` and `modes` differ in length,
- * a place is above 15 or an access mode above 7, `data` is not 16 bytes an element, the code is unknown, or the frame
- * would be longer than 255 bytes. Otherwise 21 comes exactly when the shortest form is longer than `out`. A refusal
- * leaves `out` as it was. It is one of the command whose code was handed in; the answer does not repeat that code.
+ * last eight bytes of challenge must be zero. 22 comes exactly when no accepted frame and no accepted secure payload
+ * gives the command: among other things where a field or a list is there that the command lacks, a value is undefined,
+ * a count is outside its range, `numbers`, `places` and `modes` differ in length, a place is above 15 or an access mode
+ * above 7, `data` is not 16 bytes an element, the code is unknown, or the frame would be longer than 255 bytes.
+ * Otherwise 21 comes exactly when the shortest form is longer than `out`. A refusal leaves `out` as it was. It is one of
+ * the command whose code was handed in; the answer does not repeat that code.
  *
  * What the list reader gave goes back in as it came: the code, `idm`, `challenge` and the five of `fields`, the five
  * buffers with the counts in `parts` as lengths, and the bytes of DATA and PACKAGE where they stand. Of a frame and of

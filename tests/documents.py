@@ -5,8 +5,9 @@
 - Links lead to files that are there.
 - Commands: a block marked sh is run as it stands, and what it prints is the block marked text behind it. A block marked bash takes minutes or needs what is not here, and is not run.
 - Grounds and codes: those of docs/CALLS.md are those of include/felica.h, which tests/callers.sh holds to the code, and its codes those of docs/FORMAT.md.
-- Layouts: each line of docs/FORMAT.md is tried on felica: every value of each byte that has a range, every count, the body cut at each byte and one byte longer.
-- Fields: those that docs/CALLS.md gives a command are those of felica's answer, in its order.
+- Layouts: each line of docs/FORMAT.md is tried on felica: every value of each byte that has a range, every count, the body cut at each byte and one byte longer,
+  and each part must come back under its name. So docs/CALLS.md has the fields of each command, in the order of the answer.
+- Definitions: what those in docs/TRUST.md stand on is named there too.
 """
 import re
 import subprocess
@@ -17,6 +18,10 @@ from running import FAILURES, ROOT, run, stop_without
 PAGES = [ROOT / "README.md", *sorted((ROOT / "docs").glob("*.md"))]
 # What a run of rt try may take on a busy machine.
 COMMAND_SECONDS = 300
+# What felica calls a part of docs/FORMAT.md that does not have the field's name in its own.
+FIELDS = {"codes": "first", "areas": "first", "services": "second", "elements": "blocks", "area code": "node", "service code": "node"}
+# docs/TRUST.md needs one definition of it, and says which.
+NEED_NOT_BE_READ = "felica_cursor"
 
 
 def text_of(name):
@@ -76,8 +81,7 @@ def rows_of(page, heading):
 
 def same(what, one, other):
     if one != other:
-        differ = [key for key in sorted(one.keys() | other.keys()) if one.get(key) != other.get(key)]
-        yield f"{what} differ at {differ}"
+        yield f"{what} differ at {sorted({key for key, _ in one.items() ^ other.items()})}"
 
 
 def wrong_grounds():
@@ -151,10 +155,11 @@ def bodies_of(parts):
         yield body.replace(b"\x80\0", b"\0\0"), False
 
 
-def call_of(code, body):
-    """The call that asks for a body, of a secure code if the page has it among these."""
+def calls_of(bodies):
+    """The calls that ask for bodies of codes."""
     plain, _ = text_of("docs/FORMAT.md").split("\n## Secure bodies\n")
-    return f"P {code}{body.hex()}" if f"\n    {code} |" in plain else f"S {code} {body.hex() or '-'}"
+    codes = set(re.findall(r"^    ([0-9A-F]{2}) \|", plain, re.M))
+    return [f"P {code}{body.hex()}" if code in codes else f"S {code} {body.hex() or '-'}" for code, body in bodies]
 
 
 def answers_to(calls):
@@ -166,23 +171,80 @@ def answers_to(calls):
 
 def wrong_layouts():
     tried = [(code, body, allowed) for code, parts in layouts().items() for body, allowed in bodies_of(parts)]
-    calls = [call_of(code, body) for code, body, _ in tried]
+    calls = calls_of((code, body) for code, body, _ in tried)
     for (code, _, allowed), call, answer in zip(tried, calls, answers_to(calls)):
         if not answer.startswith(f"OK {code}" if allowed else "NO "):
             yield f"docs/FORMAT.md: {call[:80]} is answered by {answer[:80]}"
 
 
+def filled(part, fresh):
+    """The bytes of a part, each free one with a value of its own, and how felica gives them: None where it does not."""
+    taken = lambda count: bytes(next(fresh) for _ in range(count))
+    size = re.search(r" (\d{1,2})$", part)
+    if re.fullmatch(r"00( 00)*", part):
+        return bytes(len(part.split())), None
+    if re.match(r"[nm] ", part):
+        return b"\2", None
+    if part.startswith("elements"):
+        short, low, high = taken(3)
+        return bytes([0x93, short, 0x25, low, high]), f"{short:04X}/3/1,{high:02X}{low:02X}/5/2"
+    if part.startswith("data"):
+        data = taken(32)
+        return data, data.hex().upper()
+    if "×" in part:
+        codes = taken(2), taken(2)
+        return b"".join(codes), ",".join(code[::-1].hex().upper() for code in codes)
+    if part.endswith("rest"):
+        rest = taken(3)
+        return rest, None if part.startswith("ignored") else rest.hex().upper()
+    if size:
+        value = taken(int(size[1]))
+        return value, (value[::-1] if len(value) == 2 and part != "system code 2" else value).hex().upper()
+    last = values_of(part)[-1]
+    return bytes([last]), f"{last:02X}"
+
+
+def names_of(part):
+    """What felica may call a part: of `node code 2` node_code, node and code."""
+    words = re.match(r"[A-Za-z ]*[A-Za-z](?= [nm] ×| rest| [0-9])", part)[0].lower()
+    return {FIELDS.get(words, ""), words.replace(" ", "_"), *words.split()}
+
+
+def example_of(parts):
+    """A body of a line, and the names and the value of each part that felica gives."""
+    fresh = iter(range(0x11, 0xF0))
+    pieces = [(part, *filled(part, fresh)) for part in parts]
+    return b"".join(body for _, body, _ in pieces), [(names_of(part), value) for part, _, value in pieces if value is not None]
+
+
 def wrong_fields():
-    accepted = {code: next(bodies_of(parts))[0] for code, parts in layouts().items()}
-    answers = answers_to([call_of(code, body) for code, body in accepted.items()])
-    given = {code: re.findall(r"(\w+)=", answer) for code, answer in zip(accepted, answers)}
+    examples = {code: example_of(parts) for code, parts in layouts().items()}
+    answers = answers_to(calls_of((code, body) for code, (body, _) in examples.items()))
     page = {code: re.findall(r"`(\w+)`", fields) for code, _, fields in rows_of("CALLS.md", "Commands")}
-    yield from (f"docs/CALLS.md: {code} has {given[code]}" for code in page if page[code] != given.get(code))
+    for (code, (_, wanted)), answer in zip(examples.items(), answers):
+        told = re.findall(r"(\w+)=(\S+)", answer)
+        if len(told) != len(wanted) or any(name not in names or value != part for (name, value), (names, part) in zip(told, wanted)):
+            yield f"docs/FORMAT.md: {code} is answered by {answer}"
+        if page[code] != [name for name, _ in told]:
+            yield f"docs/CALLS.md: {code} has the fields of {answer}"
+
+
+def unread_definitions():
+    """What definitions that must be read stand on, and docs/TRUST.md does not name."""
+    linked = [ROOT / "docs" / target for target in re.findall(r"\]\((\.\./crates/\w+/specs[^)]*)\)", text_of("docs/TRUST.md"))]
+    files = {file.resolve() for target in linked for file in (sorted(target.glob("*.antt")) if target.is_dir() else [target])}
+    for file in sorted(files):
+        if NEED_NOT_BE_READ in file.parts:
+            continue
+        for crate, module in re.findall(r"^use Rattle\.(felica\w*|list_log)\.specs\.(\w+)\.\{", file.read_text(), re.M):
+            used = ROOT / "crates" / crate / "specs" / f"{module}.antt"
+            if used not in files:
+                yield f"docs/TRUST.md lacks {used.relative_to(ROOT)}, on which {file.name} stands"
 
 
 def main():
     stop_without("felica")
-    checks = (long_lines, dead_links, wrong_grounds, wrong_codes, wrong_layouts, wrong_fields, wrong_commands)
+    checks = (long_lines, dead_links, unread_definitions, wrong_grounds, wrong_codes, wrong_layouts, wrong_fields, wrong_commands)
     found = []
     for check in checks:
         try:

@@ -4,6 +4,7 @@ use core::fmt;
 /// Why there is no command, or nothing was written. "First" and "second" count in field order; a secure block count is
 /// a first. Its text says it in words.
 #[derive(Clone, Copy, Debug, PartialEq, Eq, Hash)]
+#[non_exhaustive]
 pub enum Ground {
     EmptyFrame = 1,
     LengthByteWrong = 2,
