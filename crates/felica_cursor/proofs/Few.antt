@@ -1,31 +1,22 @@
--- The walk over the elements of a block list, and the one over few of them, by their first bytes alone.
+-- The walk over the elements of a block list: eight of one form at once, others by their first bytes alone.
 -- Assumes nothing.
-use Rattle.std.proofs.Common.{ℕ, suc, ◌+◌, ◌-◌, ◌*◌, ◌/◌, ◌<◌, ◌≤◌, arith, ◌≡◌, refl, sym, ap, ◌∙◌, subst, ◌⊎◌, inl, inr, Bool, true, false, cond, List, [], ◌∷◌, ◌++◌, ltb, leb, length, get_or, drop, length-append, length-drop, ltb-true, ltb-false, leb-true, leb-false, lt-ltb, le-ltb, Ok}
-use Rattle.felica_format.specs.Basic.{taken, refuse, word_of}
+use Rattle.std.proofs.Common.{ℕ, zero, suc, ◌+◌, ◌-◌, ◌*◌, ◌/◌, ◌<◌, ◌≤◌, arith, ◌≡◌, refl, sym, ap, ◌∙◌, subst, ◌⊎◌, inl, inr, Bool, true, false, cond, List, [], ◌∷◌, ltb, leb, length, get_or, take, drop, drop-drop, get_or-drop, length-drop, ltb-true, ltb-false, leb-true, leb-false, lt-ltb, le-ltb, ◌&&◌, Ok}
+use Rattle.std.proofs.lemmas.List.{get_or-take}
+use Rattle.std.specs.List.{fold}
+use Rattle.std.specs.Simd.{first_chunks}
+use Rattle.felica_format.specs.Basic.{Step, taken, refuse, bind, word_of}
 use Rattle.felica_format.specs.Command.{Formed, long_count}
-use Rattle.felica_format.specs.Read.{element_of, formed, read_count, read_element, read_each, read_long, read_short}
-use Rattle.felica_format.proofs.Elements.{long_few}
-use Rattle.felica_format.proofs.Steps.{none_taken, taken_value, refuse_if_passed, refuse_if_taken}
-use Rattle.felica_format.proofs.Tests.{or_none}
+use Rattle.felica_format.specs.Read.{element_of, formed, read_element, read_each, read_long, read_short}
+use Rattle.felica_format.proofs.Steps.{none_taken, taken_value, taken_rest, bind_taken}
 use Rattle.felica_command.specs.Meaning.{part}
 use Rattle.felica_command.specs.Places.{element_size, elements_size}
-use Rattle.felica_command.proofs.Inside.{each_leaves}
-use Rattle.felica_cursor.specs.Taken.{rest, moved, Takes}
-use Rattle.felica_cursor.specs.Steps.{elements_in, ElementsFrom}
+use Rattle.felica_command.proofs.Inside.{each_leaves, each_whole}
+use Rattle.felica_cursor.specs.Taken.{rest, Takes}
+use Rattle.felica_cursor.specs.Steps.{elements_in, ElementsFrom, Passes}
 use Rattle.felica_cursor.specs.declared.cursor.Blocks.{Blocks}
 use Rattle.felica_cursor.specs.declared.cursor.Cursor.{Cursor}
-use Rattle.felica_cursor.proofs.Blocks.{before, before_none, each_more, each_refused, each_done, long_more}
-use Rattle.felica_cursor.proofs.Laws.{front_at, at_front_2, at_front_3, long_cut, short_cut, size_more, size_done}
-
--- what a count that was taken says
-pub count_taken : (missing outside least greatest : ℕ) (l : List ℕ) (n : ℕ) (r : List ℕ) → read_count missing outside least greatest l ≡ taken n r
-    → (least ≤ n) × (0 < length l)
-unfolding read_count
-count_taken missing outside least greatest [] n r e = absurd (none_taken e)
-count_taken missing outside least greatest (b ∷ l) n r e =
-    let low : least ≤ b = ltb-false _ _ (or_none _ _ (refuse_if_passed _ _ _ e)).0 in
-    let same : b ≡ n = taken_value (refuse_if_taken _ _ _ e) in
-    (omega arith, omega arith)
+use Rattle.felica_cursor.proofs.Blocks.{before, before_none, before_cons, form_here}
+use Rattle.felica_cursor.proofs.Laws.{front_at, at_front_2, at_front_3, long_cut, short_cut}
 
 -- ── one element ─────────────────────────────────────────────────────────────
 module _ (s : List ℕ) (at : ℕ) where
@@ -77,102 +68,234 @@ size_most head = go (ltb head 128)
     go true = omega arith
     go false = omega arith
 
--- ── the walk ────────────────────────────────────────────────────────────────
--- behind so many elements that were whole, with `left` still to come
-abbrev pub Walked : List ℕ → ℕ → ℕ → ℕ → ℕ → Type 0
-Walked s start count at left =
-    (done : List Formed) × (read_each count (drop start s) ≡ before done (read_each left (drop at s)))
-    × (at ≡ start + (2 * length done + long_count done)) × (length done + left ≡ count)
-    × (start + elements_size count (drop start s) ≡ at + elements_size left (drop at s))
+-- ── elements passed over ────────────────────────────────────────────────────
+size_on : (m n : ℕ) (l : List ℕ) → elements_size (m + n) l ≡ elements_size m l + elements_size n (drop (elements_size m l) l)
+unfolding elements_size
+size_on zero n l = let e : 0 + n ≡ n = omega arith in rw e (omega arith)
+size_on (suc m) n l =
+    let size = element_size (get_or l 0 0) in
+    let e : suc m + n ≡ suc (m + n) = omega arith in
+    let ih = size_on m n (drop size l) in
+    let there = drop-drop (elements_size m (drop size l)) size l in
+    rw (e, ih, there) (omega arith)
 
--- or behind a long element that lacked its third byte
+each_on : (m n : ℕ) (l : List ℕ) (es : List Formed) (r : List ℕ) → read_each m l ≡ taken es r → read_each (m + n) l ≡ before es (read_each n r)
+unfolding read_each
+each_on zero n l es r h =
+    let e : 0 + n ≡ n = omega arith in
+    rw (e, ← taken_value h, ← taken_rest h) (before_none (read_each n l))
+each_on (suc m) n l es r h =
+    let first = bind_taken (read_element l) (λ e t. bind (read_each m t) λ fs u. taken (e ∷ fs) u) h in
+    let more = bind_taken (read_each m first.1) (λ fs u. taken (first.0 ∷ fs) u) first.3 in
+    let e : suc m + n ≡ suc (m + n) = omega arith in
+    let ih = each_on m n first.1 more.0 more.1 more.2 in
+    let here : read_each (suc (m + n)) l ≡ before (first.0 ∷ more.0) (read_each n more.1) =
+    before_cons first.0 more.0 l first.1 (read_each (m + n)) (read_each n more.1) first.2 ih in
+    subst (λ (i : ℕ). read_each i l ≡ before (first.0 ∷ more.0) (read_each n more.1)) (sym e) here
+    ∙ ap (λ (x : List Formed). before x (read_each n more.1)) (taken_value more.3) ∙ ap (λ (t : List ℕ). before es (read_each n t)) (taken_rest more.3)
+
+-- behind elements that are there, one is refused
+pub refused_on : (m n g : ℕ) (l : List ℕ) → elements_size m l ≤ length l → read_each n (drop (elements_size m l) l) ≡ refuse g → read_each (m + n) l ≡ refuse g
+refused_on m n g l there h =
+    let whole = each_whole m l there in
+    each_on m n l whole.0 _ whole.1 ∙ ap (before whole.0) h
+
+refused_first : (n g : ℕ) (l : List ℕ) → read_element l ≡ refuse g → read_each (suc n) l ≡ refuse g
+unfolding read_each bind
+refused_first n g l h = rw h refl
+
+-- so many elements are there, from one place to another
+abbrev pub Whole : List ℕ → ℕ → ℕ → ℕ → Type 0
+Whole s start n at = (elements_size n (drop start s) ≤ length (drop start s)) × (at ≡ start + elements_size n (drop start s))
+
+pub whole_none : (s : List ℕ) (start : ℕ) → Whole s start 0 start
+unfolding elements_size
+whole_none s start = (omega arith, omega arith)
+
+whole_one : (s : List ℕ) (at : ℕ) → at + element_size (get_or s at 0) ≤ length s → Whole s at 1 (at + element_size (get_or s at 0))
+unfolding elements_size
+whole_one s at inside =
+    let e : at + 0 ≡ at = omega arith in
+    let left : length (drop at s) ≡ length s - at = length-drop at s in
+    rw (get_or-drop at s 0 0, e) (omega arith, omega arith)
+
+pub whole_on : (s : List ℕ) (start m at n next : ℕ) → Whole s start m at → Whole s at n next → Whole s start (m + n) next
+whole_on s start m at n next (there, size) (more, next_size) =
+    let l = drop start s in
+    let behind : drop (elements_size m l) l ≡ drop at s = drop-drop (elements_size m l) start s ∙ ap (λ k. drop k s) (sym size) in
+    let all : elements_size (m + n) l ≡ elements_size m l + elements_size n (drop at s) =
+    size_on m n l ∙ ap (λ t. elements_size m l + elements_size n t) behind in
+    let left : length (drop at s) ≡ length l - elements_size m l = ap length (sym behind) ∙ length-drop (elements_size m l) l in
+    (omega arith, omega arith)
+
+-- as a cursor's
+pub passes_whole : (n : ℕ) (c : Cursor) (at : ℕ) → Whole c.payload.now c.at n at → Passes n c (Ok (record c { at = at }))
+passes_whole n c at (there, size) = (there, ap (λ (k : ℕ). record c { at = k }) size)
+
+whole_passes : (n : ℕ) (c behind : Cursor) → Passes n c (Ok behind) → Whole c.payload.now c.at n behind.at
+whole_passes n c behind (there, is) = (there, ap (λ (x : Cursor). x.at) is)
+
+pub passes_none : (c : Cursor) → Passes 0 c (Ok c)
+passes_none c = passes_whole 0 c c.at (whole_none c.payload.now c.at)
+
+pub passes_on : (m n k : ℕ) (c d b : Cursor) → m + n ≡ k → Passes m c (Ok d) → Passes n d (Ok b) → Passes k c (Ok b)
+passes_on m n k c d b e first second =
+    let (there, is) = first in
+    let d_at : ℕ = d.at in
+    let at : Cursor = record c { at = d_at } in
+    let same : d ≡ at = is ∙ ap (λ (k : ℕ). record c { at = k }) (sym (ap (λ (x : Cursor). x.at) is)) in
+    let more : Passes n at (Ok b) = subst (λ (x : Cursor). Passes n x (Ok b)) same second in
+    let whole = whole_on c.payload.now c.at m d_at n b.at (whole_passes m c d first) (whole_passes n at b more) in
+    let b_is : b ≡ record c { at = b.at } = more.1 ∙ ap (λ (k : ℕ). record c { at = k }) (sym (ap (λ (x : Cursor). x.at) more.1)) in
+    subst (λ (i : ℕ). Passes i c (Ok b)) e (subst (λ (x : Cursor). Passes (m + n) c (Ok x)) (sym b_is) (passes_whole (m + n) c b.at whole))
+
+pub passes_refused : (m n k g : ℕ) (c d : Cursor) → m + n ≡ k → Passes m c (Ok d) → read_each n (rest d) ≡ refuse g → read_each k (rest c) ≡ refuse g
+passes_refused m n k g c d e (there, is) h =
+    let behind : rest d ≡ drop (elements_size m (rest c)) (rest c) =
+    ap rest is ∙ sym (drop-drop (elements_size m (rest c)) c.at c.payload.now) in
+    subst (λ (i : ℕ). read_each i (rest c) ≡ refuse g) e (refused_on m n g (rest c) there (rw (← behind) h))
+
+-- a refusal is one of a longer list
+stops_each : (g : ℕ) (x y : Step (List Formed)) (e : Formed) → (x ≡ refuse g → y ≡ refuse g) → bind x (λ es t. taken (e ∷ es) t) ≡ refuse g
+    → bind y (λ es t. taken (e ∷ es) t) ≡ refuse g
+unfolding bind
+stops_each g (taken es t) y e on h = absurd (none_taken (sym h))
+stops_each g (refuse k) y e on h = rw (on h) refl
+
+stops_first : (g m k : ℕ) (x : Step Formed) → ((t : List ℕ) → read_each m t ≡ refuse g → read_each k t ≡ refuse g)
+    → bind x (λ e t. bind (read_each m t) λ es u. taken (e ∷ es) u) ≡ refuse g → bind x (λ e t. bind (read_each k t) λ es u. taken (e ∷ es) u) ≡ refuse g
+unfolding bind
+stops_first g m k (taken e t) on h = stops_each g (read_each m t) (read_each k t) e (on t) h
+stops_first g m k (refuse j) on h = h
+
+stops : (g m n : ℕ) (l : List ℕ) → read_each m l ≡ refuse g → read_each (m + n) l ≡ refuse g
+unfolding read_each
+stops g zero n l h = absurd (none_taken (sym h))
+stops g (suc m) n l h = let e : suc m + n ≡ suc (m + n) = omega arith in rw e (stops_first g m (m + n) (read_element l) (stops g m n) h)
+
+pub refused_longer : (m n k g : ℕ) (l : List ℕ) → m + n ≡ k → read_each m l ≡ refuse g → read_each k l ≡ refuse g
+refused_longer m n k g l e h = subst (λ (i : ℕ). read_each i l ≡ refuse g) e (stops g m n l h)
+
+-- ── the walk by first bytes ─────────────────────────────────────────────────
+-- a long element that lacks its third byte was passed over
 abbrev pub Lacking : List ℕ → ℕ → ℕ → ℕ → Type 0
-Lacking s start count at = (at ≡ length s + 1) × (read_each count (drop start s) ≡ refuse 16)
+Lacking s start count at = (start ≤ length s) × (at ≡ length s + 1) × (read_each count (drop start s) ≡ refuse 16)
 
 abbrev pub Walk : List ℕ → ℕ → ℕ → ℕ → ℕ → Type 0
-Walk s start count at left = ((at ≤ length s) × Walked s start count at left) ⊎ Lacking s start count at
+Walk s start count n at = Whole s start n at ⊎ Lacking s start count at
 
-pub walked_none : (s : List ℕ) (start count left : ℕ) → left ≡ count → Walked s start count start left
-walked_none s start count left e = rw e ([], before_none _, omega arith, omega arith, refl)
+-- whole elements do not go past the end
+whole_inside : (s : List ℕ) (start n at : ℕ) → Whole s start n at → start ≤ length s → at ≤ length s
+whole_inside s start n at (there, size) h = let left : length (drop start s) ≡ length s - start = length-drop start s in omega arith
 
-pub walk_none : (s : List ℕ) (start count left : ℕ) → left ≡ count → start ≤ length s → Walk s start count start left
-walk_none s start count left e h = inl (h, walked_none s start count left e)
+whole_refused : (s : List ℕ) (start count n at more g : ℕ) → n + suc more ≡ count → Whole s start n at → read_element (drop at s) ≡ refuse g → read_each count (drop start s) ≡ refuse g
+whole_refused s start count n at more g e (there, size) h =
+    let l = drop start s in
+    let behind : drop (elements_size n l) l ≡ drop at s = drop-drop (elements_size n l) start s ∙ ap (λ k. drop k s) (sym size) in
+    subst (λ (i : ℕ). read_each i l ≡ refuse g) e (refused_on n (suc more) g l there (rw behind (refused_first more g (drop at s) h)))
 
-module _ (s : List ℕ) (start count at left n : ℕ) (more : left ≡ suc n) where
-  pub walked_more : (f : Formed) (next : ℕ) → Walked s start count at left → read_element (drop at s) ≡ taken f (drop next s)
-      → next ≡ at + element_size (get_or s at 0) → next ≡ at + 2 + cond f.long 1 0 → Walked s start count next n
-  walked_more f next (done, read, size, many, reach) took placed form =
-      let long = long_more done f in
-      let length_more : length (done ++ (f ∷ [])) ≡ length done + 1 = length-append done (f ∷ []) in (
-        done ++ (f ∷ []),
-        read ∙ each_more done f left n (drop at s) (drop next s) more took,
-        omega (arith, size, form, long, length_more),
-        omega (arith, many, more, length_more),
-        reach ∙ size_more s at next left n more placed,
-      )
-
+module _ (s : List ℕ) (start count n at more : ℕ) (all : n + suc more ≡ count) where
   -- an element more, of which two bytes are there
-  pub walk_more : at + 2 ≤ length s → Walk s start count at left → Walk s start count (at + element_size (get_or s at 0)) n
-  walk_more two (inr (end, read)) = absurd (omega arith)
-  walk_more two (inl (here, walked)) = go (ltb (get_or s at 0) 128) refl
+  pub walk_more : at + 2 ≤ length s → Walk s start count n at → Walk s start count (n + 1) (at + element_size (get_or s at 0))
+  walk_more two (inr (inside, end, read)) = absurd (omega arith)
+  walk_more two (inl whole) = go (leb (at + element_size (get_or s at 0)) (length s)) refl
     where
-      long : (b : Bool) → leb (at + 3) (length s) ≡ b → get_or s at 0 < 128 → Walk s start count (at + 3) n
-      long true three clear =
-          let there : at + 3 ≤ length s = leb-true _ _ three in
-          let whole : at + 2 < length s = omega arith in
-          inl (there, walked_more _ (at + 3) walked (long_here s at whole clear) (rw (lt-ltb _ _ clear)) (omega arith))
-      long false three clear =
-          let short : length s < at + 3 = leb-false _ _ three in
-          inr (omega arith, walked.1 ∙ each_refused walked.0 left n 16 (drop at s) more (long_lacks s at (omega arith) short clear))
-
-      go : (b : Bool) → ltb (get_or s at 0) 128 ≡ b → Walk s start count (at + element_size (get_or s at 0)) n
-      go true h = rw h (long (leb (at + 3) (length s)) refl (ltb-true _ _ h))
-      go false h =
-          let set : 128 ≤ get_or s at 0 = ltb-false _ _ h in
-          rw h (inl (two, walked_more _ (at + 2) walked (short_here s at (omega arith) set) (rw h) (omega arith)))
+      go : (b : Bool) → leb (at + element_size (get_or s at 0)) (length s) ≡ b → Walk s start count (n + 1) (at + element_size (get_or s at 0))
+      go true there = inl (whole_on s start n at 1 _ whole (whole_one s at (leb-true _ _ there)))
+      go false there =
+          let beyond : length s < at + element_size (get_or s at 0) = leb-false _ _ there in
+          lacks (ltb (get_or s at 0) 128) refl beyond
+        where
+          lacks : (b : Bool) → ltb (get_or s at 0) 128 ≡ b → length s < at + cond b 3 2 → Walk s start count (n + 1) (at + element_size (get_or s at 0))
+          lacks true h beyond =
+              let left : length (drop start s) ≡ length s - start = length-drop start s in
+              let long : length s < at + 3 = beyond in
+              rw h (inr (omega arith, omega arith, whole_refused s start count n at more 16 all whole (long_lacks s at (omega arith) long (ltb-true _ _ h))))
+          lacks false h beyond = absurd (omega arith)
 
   -- no element more
-  pub walk_cut : (r : ℕ) → length s < at + 2 → (length s < at → r ≡ 16) → (at ≤ length s → read_element (drop at s) ≡ refuse r)
-      → Walk s start count at left → read_each count (drop start s) ≡ refuse r
-  walk_cut r few behind here (inr (end, read)) = read ∙ ap refuse (sym (behind (omega arith)))
-  walk_cut r few behind here (inl (inside, walked)) = walked.1 ∙ each_refused walked.0 left n r (drop at s) more (here inside)
+  pub walk_cut : (r : ℕ) → (start ≤ length s → length s < at → r ≡ 16) → ((start ≤ length s → at ≤ length s) → read_element (drop at s) ≡ refuse r)
+      → Walk s start count n at → read_each count (drop start s) ≡ refuse r
+  walk_cut r past here (inr (inside, end, read)) = read ∙ ap refuse (sym (past inside (omega arith)))
+  walk_cut r past here (inl whole) = whole_refused s start count n at more r all whole (here (whole_inside s start n at whole))
 
--- all elements: what was read, how far they reach and how many were long
-abbrev pub Done : List ℕ → ℕ → ℕ → ℕ → Type 0
-Done s start count at =
-    (done : List Formed) × (read_each count (drop start s) ≡ taken done (drop at s)) × (at ≡ start + (2 * count + long_count done))
-    × (long_count done ≤ count) × (at ≡ start + elements_size count (drop start s))
+pub walk_past : (s : List ℕ) (start count n at : ℕ) → start ≤ length s → length s < at → Walk s start count n at → read_each count (drop start s) ≡ refuse 16
+walk_past s start count n at inside beyond (inr (_, end, read)) = read
+walk_past s start count n at inside beyond (inl whole) = let here = whole_inside s start n at whole inside in absurd (omega arith)
 
-pub walked_done : (s : List ℕ) (start count at left : ℕ) → left ≡ 0 → Walked s start count at left → Done s start count at
-walked_done s start count at left none (done, read, size, many, reach) =
-    let few = long_few done in (
-      done,
-      read ∙ each_done done left (drop at s) none,
-      omega (arith, size, many, none),
-      omega (arith, few, many, none),
-      sym (reach ∙ size_done s at left none),
-    )
+pub walk_done : (s : List ℕ) (start count n at : ℕ) → (start ≤ length s → at ≤ length s) → Walk s start count n at → Whole s start n at
+walk_done s start count n at here (inr (inside, end, read)) = let there = here inside in absurd (omega arith)
+walk_done s start count n at here (inl whole) = whole
 
-pub walk_done : (s : List ℕ) (start count at left : ℕ) → left ≡ 0 → at ≤ length s → Walk s start count at left → Done s start count at
-walk_done s start count at left none inside (inr (end, read)) = absurd (omega arith)
-walk_done s start count at left none inside (inl (here, walked)) = walked_done s start count at left none walked
+-- ── eight of one form ───────────────────────────────────────────────────────
+-- chunks of one size, each of which passes a test of its first byte that tells this size
+module _ (size : ℕ) (test : ℕ → Bool) (some : 0 < size) (told : (head : ℕ) → test head ≡ true → element_size head ≡ size) where
+  pub chunks_sized : (n k : ℕ) (l : List ℕ) (all : Bool) → n ≤ k → fold (λ a x. a && test (get_or x 0 0)) all (take n (first_chunks size k l)) ≡ true
+      → (all ≡ true) × (elements_size n l ≡ n * size)
+  unfolding elements_size
+  chunks_sized zero k l all h e = (e, omega arith)
+  chunks_sized (suc n) zero l all h e = absurd (omega arith)
+  chunks_sized (suc n) (suc k) l all h e =
+      let (both, rest) = chunks_sized n k (drop size l) (all && test (get_or (take size l) 0 0)) (omega arith) e in
+      let (before, passed) = split all _ both in
+      let head : get_or (take size l) 0 0 ≡ get_or l 0 0 = get_or-take size l 0 0 some in
+      let is : element_size (get_or l 0 0) ≡ size = told _ (ap test (sym head) ∙ passed) in
+      (before, rw (is, rest) (omega arith))
+    where
+      split : (a b : Bool) → (a && b) ≡ true → (a ≡ true) × (b ≡ true)
+      split true b e = (refl, e)
+      split false b e = cc
 
-pub walk_lacks : (s : List ℕ) (start count at left : ℕ) → length s < at → Walk s start count at left → read_each count (drop start s) ≡ refuse 16
-walk_lacks s start count at left beyond (inr (end, read)) = read
-walk_lacks s start count at left beyond (inl (here, walked)) = absurd (omega arith)
+pub short_told : (head : ℕ) → leb 128 head ≡ true → element_size head ≡ 2
+short_told head h = let set : 128 ≤ head = leb-true _ _ h in rw (le-ltb _ _ set) refl
 
--- a cursor in the same payload, and an element taken there
-pub cursor_in : (c d : Cursor) → d.payload ≡ c.payload → d ≡ record c { at = d.at }
-cursor_in c d same = ap (λ p. record d { payload = p }) same
+pub long_told : (head : ℕ) → ltb head 128 ≡ true → element_size head ≡ 3
+long_told head h = rw h refl
 
-pub element_in : (c d b : Cursor) (f : Formed) (n : ℕ) → d.payload ≡ c.payload → b ≡ moved d n → read_element (rest d) ≡ taken f (rest b)
-    → read_element (drop d.at c.payload.now) ≡ taken f (drop b.at c.payload.now)
-element_in c d b f n same is e =
-    subst (λ p. read_element (drop d.at p.now) ≡ taken f (drop b.at p.now)) same (e ∙ ap (λ p. taken f (drop b.at p.now)) (ap (λ (x : Cursor). x.payload) is))
+-- ── what a whole walk answers ───────────────────────────────────────────────
+each_one : (l : List ℕ) (e : Formed) (r : List ℕ) → read_element l ≡ taken e r → read_each 1 l ≡ taken (e ∷ []) r
+unfolding read_each bind
+each_one l e r h = rw h refl
 
--- what such a walk answers
-pub done_takes : (c : Cursor) (count at : ℕ) (b : Blocks) → b ≡ record { list = part c.at count; long = at - c.at - 2 * count } → Done c.payload.now c.at count at
-    → Takes (elements_in c.payload.now) (read_each count (rest c)) (ElementsFrom c) (Ok (b, record c { at = at }))
-done_takes c count at b is (done, read, size, few, reach) =
-    let long : at - c.at - 2 * count ≡ long_count done = omega (arith, size) in
-    rw is (record { read = rw read; placed = (refl, rw read (each_leaves _ _ _ _ read).1, ap (λ (k : ℕ). record c { at = k }) reach, rw read long) })
+each_size : (n : ℕ) (l : List ℕ) (es : List Formed) (r : List ℕ) → read_each n l ≡ taken es r → elements_size n l ≡ 2 * n + long_count es
+unfolding read_each elements_size
+each_size zero l es r h = let none : long_count es ≡ 0 = ap long_count (sym (taken_value h)) in omega arith
+each_size (suc n) l es r h =
+    let first = bind_taken (read_element l) (λ e t. bind (read_each n t) λ fs u. taken (e ∷ fs) u) h in
+    let more = bind_taken (read_each n first.1) (λ fs u. taken (first.0 ∷ fs) u) first.3 in
+    let size = element_size (get_or l 0 0) in
+    let here : size ≡ 2 + cond first.0.long 1 0 = form_here l first.0 first.1 first.2 in
+    let one : size + 0 ≡ size = omega arith in
+    let there : first.1 ≡ drop size l = (each_leaves 1 l (first.0 ∷ []) first.1 (each_one l first.0 first.1 first.2)).0.0 ∙ ap (λ (k : ℕ). drop k l) one in
+    let rest : elements_size n (drop size l) ≡ 2 * n + long_count more.0 = ap (elements_size n) (sym there) ∙ each_size n first.1 more.0 more.1 more.2 in
+    let long : long_count es ≡ cond first.0.long 1 0 + long_count more.0 = ap long_count (sym (taken_value more.3)) in
+    omega (arith, here, rest, long)
+
+-- the bytes of so many elements
+size_bounds : (n : ℕ) (l : List ℕ) → (2 * n ≤ elements_size n l) × (elements_size n l ≤ 3 * n)
+unfolding elements_size
+size_bounds zero l = (omega arith, omega arith)
+size_bounds (suc n) l =
+    let (low, high) = size_bounds n (drop (element_size (get_or l 0 0)) l) in
+    go (ltb (get_or l 0 0) 128) low high
+  where
+    go : (b : Bool) {k : ℕ} → 2 * n ≤ k → k ≤ 3 * n → (2 * suc n ≤ cond b 3 2 + k) × (cond b 3 2 + k ≤ 3 * suc n)
+    go true low high = (omega arith, omega arith)
+    go false low high = (omega arith, omega arith)
+
+pub passes_bounds : (c behind : Cursor) (count : ℕ) → Passes count c (Ok behind) → (c.at + 2 * count ≤ behind.at) × (behind.at ≤ c.at + 3 * count)
+passes_bounds c behind count (there, placed) =
+    let (low, high) = size_bounds count (rest c) in
+    let at : behind.at ≡ c.at + elements_size count (rest c) = ap (λ (x : Cursor). x.at) placed in
+    (omega arith, omega arith)
+
+pub passes_takes : (c behind : Cursor) (count : ℕ) (b : Blocks) → Passes count c (Ok behind) → b ≡ record { list = part c.at count; long = behind.at - c.at - 2 * count }
+    → Takes (elements_in c.payload.now) (read_each count (rest c)) (ElementsFrom c) (Ok (b, behind))
+passes_takes c behind count b (there, placed) is =
+    let (done, whole) = each_whole count (rest c) there in
+    let read : read_each count (rest c) ≡ taken done (rest behind) =
+    whole ∙ ap (taken done) (drop-drop (elements_size count (rest c)) c.at c.payload.now ∙ sym (ap rest placed)) in
+    let size = each_size count (rest c) done (rest behind) read in
+    let at : behind.at ≡ c.at + elements_size count (rest c) = ap (λ (x : Cursor). x.at) placed in
+    let long : behind.at - c.at - 2 * count ≡ long_count done = omega (arith, size, at) in
+    rw is (record { read = rw read; placed = (refl, rw read (each_leaves _ _ _ _ read).1, placed, rw read long) })
