@@ -17,9 +17,6 @@ use felica_format::constants;
 use felica_format::constants::{Bounds, bounds_at};
 use felica_format::error::Reason;
 
-// So many elements are passed over at once where all have one form.
-const MANY: u8 = 8;
-
 #[derive(Clone, Copy, Debug, PartialEq, Eq)]
 pub struct Cursor<'a> {
     pub payload: &'a [u8],
@@ -201,7 +198,7 @@ impl<'a> Cursor<'a> {
     }
 
     // Bit 7 set: one byte of block number follows. Bit 7 clear: two bytes. The answer tells which it was.
-    #[tactic(auto, using(crate::proofs::Few::short_here, crate::proofs::Few::short_lacks, crate::proofs::Few::long_here, crate::proofs::Few::long_lacks), unfolding(felica_format::specs::Read::read_element))]
+    #[tactic(auto, using(crate::proofs::Blocks::short_here, crate::proofs::Blocks::short_lacks, crate::proofs::Blocks::long_here, crate::proofs::Blocks::long_lacks), unfolding(felica_format::specs::Read::read_element))]
     pub fn take_element(self) -> Taken<'a, FormedElement>
         ensures { Takes formed_is (read_element (rest self.entry)) (To (moved self.entry (element_size (get_or self.entry.payload.now self.entry.at 0)))) result }
     {
@@ -233,20 +230,20 @@ impl<'a> Cursor<'a> {
         ))
     }
 
-    // The elements behind their count. Inlined, as are `pass_eight` and `pass_few`: else the answer of each is stored and loaded again.
+    // The elements behind their count. Inlined, as are the steps over them: else their answers are stored and loaded again, half as long as the walk over a short list.
     #[inline(always)]
     pub fn take_elements(self, count: u8) -> Taken<'a, Blocks>
         ensures { Takes (elements_in self.entry.payload.now) (read_each count (rest self.entry)) (ElementsFrom self.entry) result }
     {
         let mut cursor = self;
-        for _eight in 0..count / MANY {
+        for _eight in 0..count / 8 {
             cursor = cursor.pass_eight()?;
         }
-        let behind = cursor.pass_few(count % MANY)?;
+        let behind = cursor.pass_few(count % 8)?;
         Ok((Blocks::between(self.at, behind.at, count), behind))
     }
 
-    // Most lists have one form throughout.
+    // Most lists have one form throughout, and eight elements of one form are passed over at once.
     #[inline(always)]
     fn pass_eight(self) -> Result<Cursor<'a>, Reason>
         ensures { Passes 8 self.entry result }
@@ -260,11 +257,11 @@ impl<'a> Cursor<'a> {
             let at = self.at + 24;
             return Ok(Cursor { at, ..self });
         }
-        self.pass_few(MANY)
+        self.pass_few(8)
     }
 
-    // By their first bytes alone, without a jump for the form of each: where the forms of a list change, that is guessed wrongly every other time. An element has two bytes at
-    // least, so the walk goes on while two are left; a long one may then lack its third, and the place behind it is one beyond the payload's end.
+    // So many elements by their first bytes alone, without a jump for the form of each: where the forms of a list change, that is guessed wrongly every other time.
+    // An element has two bytes at least, so the walk goes on while two are left; a long one may then lack its third, and takes it one beyond the payload's end.
     #[inline(always)]
     fn pass_few(self, count: u8) -> Result<Cursor<'a>, Reason>
         ensures { Passes count self.entry result }
@@ -285,15 +282,15 @@ impl<'a> Cursor<'a> {
         Ok(Cursor { at, ..self })
     }
 
-    // Whether a walk from here to that place has passed the payload's end.
+    // Whether a walk from here to that place has gone past the payload's end.
     fn is_past_end(self, at: usize) -> bool
         ensures past { result ≡ true → (self.entry.at ≤ length self.entry.payload.now) × (length self.entry.payload.now < at) }
         ensures inside { result ≡ false → self.entry.at ≤ length self.entry.payload.now → at ≤ length self.entry.payload.now }
     {
-        self.at <= self.payload.len() && self.payload.len() < at
+        self.payload.len() < at && self.at <= self.payload.len()
     }
 
-    // Why no element is whole at a place with fewer than two bytes, which a walk from here has come to. Only a long element that lacks its third byte takes it past the end.
+    // Why no element is whole at a place with fewer than two bytes, to which a walk from here has come.
     fn cut_off(self, at: usize) -> Reason
         requires { length self.payload.now < at + 2 }
         ensures past { self.entry.at ≤ length self.entry.payload.now → length self.entry.payload.now < at → number_of result ≡ 16 }
@@ -338,7 +335,7 @@ impl<'a> Cursor<'a> {
 }
 
 // The bytes of an element, by its first.
-#[tactic(auto, using(crate::proofs::Few::size_by_bit))]
+#[tactic(auto, using(crate::proofs::Blocks::size_by_bit))]
 fn element_size(header: u8) -> usize
     ensures { result ≡ element_size header }
 {
@@ -357,6 +354,7 @@ fn eight_short(bytes: &[u8]) -> bool
         .fold(true, |all, [header, _]| all & (0x80 <= *header))
 }
 
+// The same of long ones.
 fn eight_long(bytes: &[u8]) -> bool
     ensures { result ≡ true → (elements_size 8 bytes.now ≡ 24) × (24 ≤ length bytes.now) }
 {

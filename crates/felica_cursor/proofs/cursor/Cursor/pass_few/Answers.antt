@@ -4,7 +4,7 @@ use Rattle.std.proofs.Common.{ℕ, ◌≡◌, suc, ◌+◌, ◌-◌, ◌≤◌, 
 use Rattle.felica_format.specs.Reasons.{number_of}
 use Rattle.felica_command.specs.Places.{element_size}
 use Rattle.felica_cursor.specs.Steps.{Passes}
-use Rattle.felica_cursor.proofs.Few.{Walk, whole_none, walk_more, walk_cut, walk_past, walk_done, passes_whole}
+use Rattle.felica_cursor.proofs.Blocks.{Walk, whole_none, walk_more, walk_cut, walk_past, walk_done, passes_whole}
 use Rattle.felica_cursor.proofs.cursor.Cursor.pass_few.Goals as goal
 
 pub loop-element-init : goal.loop-element-init

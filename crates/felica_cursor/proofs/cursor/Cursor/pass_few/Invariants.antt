@@ -1,6 +1,6 @@
 -- The walk has passed over whole elements, or stands one behind the payload's end, behind a long one that lacks its third byte.
 -- Assumes nothing.
-use Rattle.felica_cursor.proofs.Few.{Walk}
+use Rattle.felica_cursor.proofs.Blocks.{Walk}
 use Rattle.felica_cursor.proofs.cursor.Cursor.pass_few.Given as goal
 
 abbrev pub invariant-loop-element : goal.invariant-loop-element

@@ -3,7 +3,7 @@
 use Rattle.std.proofs.Common.{◌≡◌, ◌+◌, ◌-◌, ◌*◌, ◌%◌, arith, refl}
 use Rattle.felica_format.specs.Reasons.{number_of}
 use Rattle.felica_cursor.specs.Taken.{rest}
-use Rattle.felica_cursor.proofs.Few.{passes_none, passes_on, passes_refused, refused_longer, passes_bounds, passes_takes}
+use Rattle.felica_cursor.proofs.Blocks.{passes_none, passes_on, passes_refused, refused_longer, passes_bounds, passes_takes}
 use Rattle.felica_cursor.proofs.Laws.{refused}
 use Rattle.felica_cursor.proofs.cursor.Cursor.take_elements.Goals as goal
 
