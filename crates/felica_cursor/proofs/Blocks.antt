@@ -115,7 +115,7 @@ each_on (suc m) n l es r h =
     ∙ ap (λ (x : List Formed). before x (read_each n more.1)) (taken_value more.3) ∙ ap (λ (t : List ℕ). before es (read_each n t)) (taken_rest more.3)
 
 -- behind elements that are there, one is refused
-pub refused_on : (m n g : ℕ) (l : List ℕ) → elements_size m l ≤ length l → read_each n (drop (elements_size m l) l) ≡ refuse g → read_each (m + n) l ≡ refuse g
+refused_on : (m n g : ℕ) (l : List ℕ) → elements_size m l ≤ length l → read_each n (drop (elements_size m l) l) ≡ refuse g → read_each (m + n) l ≡ refuse g
 refused_on m n g l there h =
     let whole = each_whole m l there in
     each_on m n l whole.0 _ whole.1 ∙ ap (before whole.0) h
@@ -139,7 +139,7 @@ whole_one s at inside =
     let left : length (drop at s) ≡ length s - at = length-drop at s in
     rw (get_or-drop at s 0 0, e) (omega arith, omega arith)
 
-pub whole_on : (s : List ℕ) (start m at n next : ℕ) → Whole s start m at → Whole s at n next → Whole s start (m + n) next
+whole_on : (s : List ℕ) (start m at n next : ℕ) → Whole s start m at → Whole s at n next → Whole s start (m + n) next
 whole_on s start m at n next (there, size) (more, next_size) =
     let l = drop start s in
     let behind : drop (elements_size m l) l ≡ drop at s = drop-drop (elements_size m l) start s ∙ ap (λ k. drop k s) (sym size) in

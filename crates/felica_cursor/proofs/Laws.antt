@@ -6,8 +6,9 @@ use Rattle.std.proofs.lemmas.Result.{err_from_is_err_and}
 use Rattle.felica_format.specs.Basic.{Step, taken, refuse, bind, refuse_if, zeros, word_of, word_at, ◌and◌}
 use Rattle.felica_format.specs.Command.{EndFields, end_fields, no_fields}
 use Rattle.felica_format.specs.Layout.{Ending, bare, polling, nothing, a_package}
-use Rattle.felica_format.specs.Read.{read_long, read_short, read_ending, read_values, size_of, zero_at, is_time_slots}
+use Rattle.felica_format.specs.Read.{words_of, read_long, read_short, read_ending, read_values, size_of, zero_at, is_time_slots}
 use Rattle.felica_format.proofs.Steps.{none_taken}
+use Rattle.felica_command.specs.Places.{element_size, elements_size}
 use Rattle.felica_format.specs.Reasons.{number_of}
 use Rattle.felica_format.specs.declared.error.Reason.{Reason}
 use Rattle.felica_cursor.specs.Taken.{rest, moved, itself, Takes, To}
@@ -39,6 +40,14 @@ pub short_cut : (head : ℕ) (l : List ℕ) → length l < 1 → read_short head
 unfolding read_short
 short_cut head [] h = refl
 short_cut head (a ∷ l) h = absurd (omega arith)
+
+-- how far the elements reach, one by one
+pub size_more : (s : List ℕ) (at next k n : ℕ) → k ≡ suc n → next ≡ at + element_size (get_or s at 0)
+    → at + elements_size k (drop at s) ≡ next + elements_size n (drop next s)
+unfolding elements_size
+size_more s at next k n p q =
+    let e : at + 0 ≡ at = omega arith in
+    rw (p, get_or-drop at s 0 0, e, drop-drop, ← q) (omega (arith, q))
 
 -- bytes that are all 00
 pub zero_all : (n at : ℕ) (s : List ℕ) → at + n ≤ length s → list_all (λ b. eqb b 0) (take n (drop at s)) ≡ zero_at n s at
