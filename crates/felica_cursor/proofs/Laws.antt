@@ -1,6 +1,6 @@
 -- Laws of the steps on the bytes that are left at a position.
 -- Assumes nothing.
-use Rattle.std.proofs.Common.{◌≡◌, refl, sym, ap, ◌∙◌, subst, Bool, true, false, not, List, [], ◌∷◌, ℕ, zero, suc, ◌+◌, ◌<◌, ◌≤◌, add-one, add-zero, add-suc, arith, ◌&&◌, ltb, leb, eqb, length, get_or, take, drop, drop-cons, drop-drop, get_or-drop, leb-true, leb-false, lt-ltb, le-ltb, Result, Ok, Err, IsErr, IsErrAnd}
+use Rattle.std.proofs.Common.{◌≡◌, refl, sym, ap, ◌∙◌, subst, Bool, true, false, not, List, [], ◌∷◌, ℕ, zero, suc, ◌+◌, ◌<◌, ◌≤◌, add-one, add-suc, arith, ◌&&◌, ltb, leb, eqb, length, get_or, take, drop, drop-cons, drop-drop, get_or-drop, leb-true, leb-false, lt-ltb, le-ltb, Result, Ok, Err, IsErr, IsErrAnd}
 use Rattle.std.specs.List.{list_all}
 use Rattle.std.proofs.lemmas.Result.{err_from_is_err_and}
 use Rattle.felica_format.specs.Basic.{Step, taken, refuse, bind, refuse_if, zeros, word_of, word_at, ◌and◌}
@@ -48,10 +48,6 @@ unfolding elements_size
 size_more s at next k n p q =
     let e : at + 0 ≡ at = omega arith in
     rw (p, get_or-drop at s 0 0, e, drop-drop, ← q) (omega (arith, q))
-
-pub size_done : (s : List ℕ) (at k : ℕ) → k ≡ 0 → at + elements_size k (drop at s) ≡ at
-unfolding elements_size
-size_done s at k p = rw p (add-zero at)
 
 -- bytes that are all 00
 pub zero_all : (n at : ℕ) (s : List ℕ) → at + n ≤ length s → list_all (λ b. eqb b 0) (take n (drop at s)) ≡ zero_at n s at

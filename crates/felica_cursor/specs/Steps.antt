@@ -1,11 +1,12 @@
 -- The parts that the list steps name: what stands there, and where it stands.
 -- Assumes nothing.
-use Rattle.std.specs.Prelude.{◌≡◌, ℕ, ◌+◌, ◌*◌, ◌<◌, true, List, length, ltb}
-use Rattle.felica_format.specs.Basic.{Step, taken, refuse_if}
+use Rattle.std.specs.Prelude.{◌≡◌, ℕ, ◌+◌, ◌*◌, ◌<◌, ◌≤◌, true, List, length, ltb, Result, Ok, Err}
+use Rattle.felica_format.specs.Basic.{Step, taken, refuse, refuse_if}
 use Rattle.felica_format.specs.Command.{Formed, long_count}
 use Rattle.felica_format.specs.Layout.{◌to◌}
-use Rattle.felica_format.specs.Read.{formed, read_count, read_codes, read_elements}
+use Rattle.felica_format.specs.Read.{formed, read_count, read_codes, read_each, read_elements}
 use Rattle.felica_format.specs.Reasons.{number_of}
+use Rattle.felica_format.specs.declared.error.Reason.{Reason}
 use Rattle.felica_format.specs.declared.constants.Bounds.{Bounds}
 use Rattle.felica_command.specs.declared.command.Part.{Part}
 use Rattle.felica_command.specs.Meaning.{part, formed_at}
@@ -43,6 +44,11 @@ abbrev pub ElementsFrom : Cursor → Blocks → Cursor → Type 0
 ElementsFrom c b behind =
     (b.list.start ≡ c.at) × (length (elements_in c.payload.now b) ≡ b.list.count) × (behind ≡ moved c (elements_size b.list.count (rest c)))
     × (b.long ≡ long_count (elements_in c.payload.now b))
+
+-- so many elements passed over: all of them are there, and the cursor stands behind them; or why one of them is refused
+abbrev pub Passes : ℕ → Cursor → Result Cursor Reason → Type 0
+Passes n c (Ok behind) = (elements_size n (rest c) ≤ length (rest c)) × (behind ≡ moved c (elements_size n (rest c)))
+Passes n c (Err why) = read_each n (rest c) ≡ refuse (number_of why)
 
 -- data: 16 bytes for each block
 abbrev pub DataFrom : Cursor → ℕ → Part → Cursor → Type 0

@@ -1,24 +1,21 @@
 // A position in a payload, and the steps in front of the fixed bytes that end a layout. Each takes its bytes and hands the position back moved on, or says why it refuses.
 // A position may be any number: from the payload's end on, nothing is left.
-ghost use Rattle.std.specs.Prelude.{◌≡◌, true, length, drop, get_or, ◌+◌, ◌-◌, ◌*◌, ◌≤◌, ◌<◌};
+ghost use Rattle.std.specs.Prelude.{◌≡◌, true, false, length, drop, get_or, ◌+◌, ◌-◌, ◌*◌, ◌≤◌, ◌<◌};
 ghost use Rattle.felica_format.specs.Basic.{refuse, word_of};
 ghost use Rattle.felica_format.specs.Layout.{◌to◌, type_byte, any_byte, bounds_of, bounds_at};
 ghost use Rattle.felica_format.specs.Reasons.{number_of};
 ghost use Rattle.felica_format.specs.Read.{element_of, read_idm, read_selector, read_words, read_element, read_each, read_data};
 ghost use Rattle.felica_command.specs.Meaning.{codes_at, bytes_at};
-ghost use Rattle.felica_command.specs.Places.{element_size};
+ghost use Rattle.felica_command.specs.Places.{element_size, elements_size};
 ghost use Rattle.felica_command.specs.Types.{element_is, node_property_byte};
 ghost use Rattle.felica_cursor.specs.Taken.{rest, moved, itself, as_step, Takes, To};
-ghost use Rattle.felica_cursor.specs.Steps.{read_count_for, read_codes_for, read_elements_for, formed_is, elements_in, CodesFrom, ElementsFrom, DataFrom};
+ghost use Rattle.felica_cursor.specs.Steps.{read_count_for, read_codes_for, read_elements_for, formed_is, elements_in, CodesFrom, ElementsFrom, DataFrom, Passes};
 
 use felica_command::command::Part;
 use felica_command::types::{BlockListElement, BlockNumber, NodePropertyType};
 use felica_format::constants;
 use felica_format::constants::{Bounds, bounds_at};
 use felica_format::error::Reason;
-
-// A list of so many elements is walked by `take_elements`, a shorter one by `take_few`.
-const MANY: u8 = 8;
 
 #[derive(Clone, Copy, Debug, PartialEq, Eq)]
 pub struct Cursor<'a> {
@@ -103,6 +100,13 @@ impl<'a> Cursor<'a> {
         ensures { result ≡ length (rest self.entry) }
     {
         self.payload.len().saturating_sub(self.at)
+    }
+
+    // The bytes that are left.
+    fn bytes(self) -> &'a [u8]
+        ensures { result.now ≡ rest self.entry }
+    {
+        self.payload.get(self.at..).unwrap_or(&[])
     }
 
     // parse_idm
@@ -194,7 +198,7 @@ impl<'a> Cursor<'a> {
     }
 
     // Bit 7 set: one byte of block number follows. Bit 7 clear: two bytes. The answer tells which it was.
-    #[tactic(auto, using(crate::proofs::Few::short_here, crate::proofs::Few::short_lacks, crate::proofs::Few::long_here, crate::proofs::Few::long_lacks), unfolding(felica_format::specs::Read::read_element))]
+    #[tactic(auto, using(crate::proofs::Blocks::short_here, crate::proofs::Blocks::short_lacks, crate::proofs::Blocks::long_here, crate::proofs::Blocks::long_lacks), unfolding(felica_format::specs::Read::read_element))]
     pub fn take_element(self) -> Taken<'a, FormedElement>
         ensures { Takes formed_is (read_element (rest self.entry)) (To (moved self.entry (element_size (get_or self.entry.payload.now self.entry.at 0)))) result }
     {
@@ -226,68 +230,87 @@ impl<'a> Cursor<'a> {
         ))
     }
 
-    // The elements behind their count.
+    // The elements behind their count. Inlined, as are the steps over them: else their answers are stored and loaded again, half as long as the walk over a short list.
+    #[inline(always)]
     pub fn take_elements(self, count: u8) -> Taken<'a, Blocks>
         ensures { Takes (elements_in self.entry.payload.now) (read_each count (rest self.entry)) (ElementsFrom self.entry) result }
     {
         let mut cursor = self;
-        for _taken in 0..count {
-            let (_, behind) = cursor.take_element()?;
-            cursor = behind;
+        for _eight in 0..count / 8 {
+            cursor = cursor.pass_eight()?;
         }
-        Ok((Blocks::between(self.at, cursor.at, count), cursor))
+        let behind = cursor.pass_few(count % 8)?;
+        Ok((Blocks::between(self.at, behind.at, count), behind))
     }
 
-    // The same by their first bytes alone, without a jump for the form of each: where the forms of a list change, that is guessed wrongly every other time, and where they
-    // do not, `take_elements` need not wait for each byte before it looks at the next. An element has two bytes at least, so the walk goes on while two are left; a long one
-    // may then lack its third. `taken` is the place of the last byte taken; behind such an element it is the payload's length.
+    // Most lists have one form throughout, and eight elements of one form are passed over at once.
     #[inline(always)]
-    fn take_few(self, count: u8) -> Taken<'a, Blocks>
-        requires { (0 < count) × (0 < self.at) × (self.at ≤ length self.payload.now) }
-        ensures { Takes (elements_in self.entry.payload.now) (read_each count (rest self.entry)) (ElementsFrom self.entry) result }
+    fn pass_eight(self) -> Result<Cursor<'a>, Reason>
+        ensures { Passes 8 self.entry result }
+    {
+        let bytes = self.bytes();
+        if eight_short(bytes) {
+            let at = self.at + 16;
+            return Ok(Cursor { at, ..self });
+        }
+        if eight_long(bytes) {
+            let at = self.at + 24;
+            return Ok(Cursor { at, ..self });
+        }
+        self.pass_few(8)
+    }
+
+    // So many elements by their first bytes alone, without a jump for the form of each: where the forms of a list change, that is guessed wrongly every other time.
+    // An element has two bytes at least, so the walk goes on while two are left; a long one may then lack its third, and takes it one beyond the payload's end.
+    #[inline(always)]
+    fn pass_few(self, count: u8) -> Result<Cursor<'a>, Reason>
+        ensures { Passes count self.entry result }
     {
         let payload = self.payload;
-        // Two bytes are left behind every place before this one.
-        let limit = payload.len().saturating_sub(2);
-        let mut taken = self.at - 1;
+        // Two bytes are left at every place before this one.
+        let limit = payload.len().saturating_sub(1);
+        let mut at = self.at;
         for _element in 0..count {
-            if limit <= taken {
-                return Err(self.cut_off(taken));
+            if limit <= at {
+                return Err(self.cut_off(at));
             }
-            taken += element_size(payload[taken + 1]);
+            at += element_size(payload[at]);
         }
-        if payload.len() <= taken {
+        if self.is_past_end(at) {
             return Err(Reason::LongBlockNumberMissing);
         }
-        let at = taken + 1;
-        Ok((Blocks::between(self.at, at, count), Cursor { at, ..self }))
+        Ok(Cursor { at, ..self })
     }
 
-    // Why no element is whole behind a place with fewer than two bytes behind it. Only a long element that lacks its third byte takes the place to the payload's length.
-    fn cut_off(self, taken: usize) -> Reason
-        requires { length self.payload.now < taken + 3 }
-        ensures { (length self.entry.payload.now ≤ taken → number_of result ≡ 16) × (taken < length self.entry.payload.now → read_element (drop (taken + 1) self.entry.payload.now) ≡ refuse (number_of result)) }
+    // Whether a walk from here to that place has gone past the payload's end.
+    fn is_past_end(self, at: usize) -> bool
+        ensures past { result ≡ true → (self.entry.at ≤ length self.entry.payload.now) × (length self.entry.payload.now < at) }
+        ensures inside { result ≡ false → self.entry.at ≤ length self.entry.payload.now → at ≤ length self.entry.payload.now }
     {
-        if self.payload.len() <= taken {
+        self.payload.len() < at && self.at <= self.payload.len()
+    }
+
+    // Why no element is whole at a place with fewer than two bytes, to which a walk from here has come.
+    fn cut_off(self, at: usize) -> Reason
+        requires { length self.payload.now < at + 2 }
+        ensures past { self.entry.at ≤ length self.entry.payload.now → length self.entry.payload.now < at → number_of result ≡ 16 }
+        ensures inside { (self.entry.at ≤ length self.entry.payload.now → at ≤ length self.entry.payload.now) → read_element (drop at self.entry.payload.now) ≡ refuse (number_of result) }
+    {
+        if self.is_past_end(at) {
             return Reason::LongBlockNumberMissing;
         }
-        let at = taken + 1;
         match (Cursor { at, ..self }).take_element() {
             Err(reason) => reason,
             Ok(_) => unreachable!(),
         }
     }
 
-    // take_block_list, with the count in front of it. Inlined, as is `take_few`: else its answer of seven words is stored and loaded again, half as long as
-    // the walk itself.
+    // take_block_list, with the count in front of it.
     #[inline(always)]
     pub fn take_block_list(self, reasons: CountReasons) -> Taken<'a, Blocks>
         ensures { Takes (elements_in self.entry.payload.now) (read_elements_for reasons (rest self.entry)) (ElementsFrom (moved self.entry 1)) result }
     {
         let (count, behind) = self.take_block_count(reasons)?;
-        if count < MANY {
-            return behind.take_few(count);
-        }
         behind.take_elements(count)
     }
 
@@ -312,9 +335,33 @@ impl<'a> Cursor<'a> {
 }
 
 // The bytes of an element, by its first.
-#[tactic(auto, using(crate::proofs::Few::size_by_bit))]
+#[tactic(auto, using(crate::proofs::Blocks::size_by_bit))]
 fn element_size(header: u8) -> usize
     ensures { result ≡ element_size header }
 {
     3 - usize::from(header >> 7)
+}
+
+// Whether eight short elements stand first. Without an early exit, so that the compiler tests them at once.
+fn eight_short(bytes: &[u8]) -> bool
+    ensures { result ≡ true → (elements_size 8 bytes.now ≡ 16) × (16 ≤ length bytes.now) }
+{
+    let Some(eight) = bytes.as_chunks::<2>().0.first_chunk::<8>() else {
+        return false;
+    };
+    eight
+        .iter()
+        .fold(true, |all, [header, _]| all & (0x80 <= *header))
+}
+
+// The same of long ones.
+fn eight_long(bytes: &[u8]) -> bool
+    ensures { result ≡ true → (elements_size 8 bytes.now ≡ 24) × (24 ≤ length bytes.now) }
+{
+    let Some(eight) = bytes.as_chunks::<3>().0.first_chunk::<8>() else {
+        return false;
+    };
+    eight
+        .iter()
+        .fold(true, |all, [header, _, _]| all & (*header < 0x80))
 }

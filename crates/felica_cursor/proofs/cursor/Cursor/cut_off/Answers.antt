@@ -2,7 +2,7 @@
 -- Assumes nothing.
 use Rattle.std.proofs.Common.{arith}
 use Rattle.std.proofs.lemmas.List.{length-drop}
-use Rattle.felica_cursor.proofs.Few.{none_of_one}
+use Rattle.felica_cursor.proofs.Blocks.{none_of_one}
 use Rattle.felica_cursor.proofs.cursor.Cursor.cut_off.Goals as goal
 
 pub unreachable-requires : goal.unreachable-requires

@@ -1,8 +1,0 @@
--- The walk takes whole elements, or stands one behind the payload's end, behind a long one that lacks its third byte.
--- Assumes nothing.
-use Rattle.std.proofs.Common.{◌+◌, ◌-◌}
-use Rattle.felica_cursor.proofs.Few.{Walk}
-use Rattle.felica_cursor.proofs.cursor.Cursor.take_few.Given as goal
-
-abbrev pub invariant-loop-element : goal.invariant-loop-element
-invariant-loop-element l = Walk l.payload l.self.at l.count (l.taken + 1) (l.count - l._element)
