@@ -75,11 +75,21 @@ fn put_parted<T: Copy, F: Fn(&mut Output<u8>, T)>(out: &mut Output<u8>, entries:
     }
 }
 
+// Digits are found from the last one on, so they go into an array from its end: a `usize` has at most 20. Most numbers have one, which is put at once.
 pub fn put_decimal(out: &mut Output<u8>, number: usize)
     ensures { Puts out.old out.new (decimal_text number) }
 {
-    if 10 <= number {
-        put_decimal(out, number / 10);
+    if number < 10 {
+        out.put(b'0' + number as u8);
+        return;
     }
-    out.put(b'0' + (number % 10) as u8);
+    let mut digits = [0; 20];
+    let mut first = 20;
+    let mut rest = number;
+    while 0 < rest {
+        first -= 1;
+        digits[first] = b'0' + (rest % 10) as u8;
+        rest /= 10;
+    }
+    out.put_all(&digits[first..]);
 }
