@@ -230,8 +230,7 @@ impl<'a> Cursor<'a> {
         ))
     }
 
-    // The elements behind their count. Inlined, as are the steps over them: else their answers are stored and loaded again, half as long as the walk over a short list.
-    #[inline(always)]
+    // The elements behind their count.
     pub fn take_elements(self, count: u8) -> Taken<'a, Blocks>
         ensures { Takes (elements_in self.entry.payload.now) (read_each count (rest self.entry)) (ElementsFrom self.entry) result }
     {
@@ -240,6 +239,16 @@ impl<'a> Cursor<'a> {
             cursor = cursor.pass_eight()?;
         }
         let behind = cursor.pass_few(count % 8)?;
+        Ok((Blocks::between(self.at, behind.at, count), behind))
+    }
+
+    // The same where they are fewer than eight, as in most lists. Inlined, as is `take_block_list`: else its answer of seven words is stored and loaded again, half as long
+    // as the walk itself.
+    #[inline(always)]
+    fn take_few(self, count: u8) -> Taken<'a, Blocks>
+        ensures { Takes (elements_in self.entry.payload.now) (read_each count (rest self.entry)) (ElementsFrom self.entry) result }
+    {
+        let behind = self.pass_few(count)?;
         Ok((Blocks::between(self.at, behind.at, count), behind))
     }
 
@@ -311,6 +320,9 @@ impl<'a> Cursor<'a> {
         ensures { Takes (elements_in self.entry.payload.now) (read_elements_for reasons (rest self.entry)) (ElementsFrom (moved self.entry 1)) result }
     {
         let (count, behind) = self.take_block_count(reasons)?;
+        if count < 8 {
+            return behind.take_few(count);
+        }
         behind.take_elements(count)
     }
 
