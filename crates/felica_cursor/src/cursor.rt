@@ -230,7 +230,9 @@ impl<'a> Cursor<'a> {
         ))
     }
 
-    // The elements behind their count.
+    // The elements behind their count. Inlined, as all steps over them are: else the answer of seven words is stored and loaded again, half as long as the walk over a short list,
+    // and a call in the middle costs the commands that have no list too.
+    #[inline(always)]
     pub fn take_elements(self, count: u8) -> Taken<'a, Blocks>
         ensures { Takes (elements_in self.entry.payload.now) (read_each count (rest self.entry)) (ElementsFrom self.entry) result }
     {
@@ -242,8 +244,7 @@ impl<'a> Cursor<'a> {
         Ok((Blocks::between(self.at, behind.at, count), behind))
     }
 
-    // The same where they are fewer than eight, as in most lists. Inlined, as is `take_block_list`: else its answer of seven words is stored and loaded again, half as long
-    // as the walk itself.
+    // The same without the eights, for the fewer than eight that most lists have.
     #[inline(always)]
     fn take_few(self, count: u8) -> Taken<'a, Blocks>
         ensures { Takes (elements_in self.entry.payload.now) (read_each count (rest self.entry)) (ElementsFrom self.entry) result }
