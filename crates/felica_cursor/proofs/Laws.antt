@@ -6,7 +6,7 @@ use Rattle.std.proofs.lemmas.Result.{err_from_is_err_and}
 use Rattle.felica_format.specs.Basic.{Step, taken, refuse, bind, refuse_if, zeros, word_of, word_at, ◌and◌}
 use Rattle.felica_format.specs.Command.{EndFields, end_fields, no_fields}
 use Rattle.felica_format.specs.Layout.{Ending, bare, polling, nothing, a_package}
-use Rattle.felica_format.specs.Read.{words_of, read_long, read_short, read_ending, read_values, size_of, zero_at, is_time_slots}
+use Rattle.felica_format.specs.Read.{read_long, read_short, read_ending, read_values, size_of, zero_at, is_time_slots}
 use Rattle.felica_format.proofs.Steps.{none_taken}
 use Rattle.felica_command.specs.Places.{element_size, elements_size}
 use Rattle.felica_format.specs.Reasons.{number_of}

@@ -230,7 +230,8 @@ impl<'a> Cursor<'a> {
         ))
     }
 
-    // The elements behind their count. Inlined, as are the steps over them: else their answers are stored and loaded again, half as long as the walk over a short list.
+    // The elements behind their count. Inlined, as all steps over them are: else the answer of seven words is stored and loaded again, half as long as the walk over a short list,
+    // and a call in the middle costs the commands that have no list too.
     #[inline(always)]
     pub fn take_elements(self, count: u8) -> Taken<'a, Blocks>
         ensures { Takes (elements_in self.entry.payload.now) (read_each count (rest self.entry)) (ElementsFrom self.entry) result }
@@ -240,6 +241,15 @@ impl<'a> Cursor<'a> {
             cursor = cursor.pass_eight()?;
         }
         let behind = cursor.pass_few(count % 8)?;
+        Ok((Blocks::between(self.at, behind.at, count), behind))
+    }
+
+    // The same without the eights, for the fewer than eight that most lists have.
+    #[inline(always)]
+    fn take_few(self, count: u8) -> Taken<'a, Blocks>
+        ensures { Takes (elements_in self.entry.payload.now) (read_each count (rest self.entry)) (ElementsFrom self.entry) result }
+    {
+        let behind = self.pass_few(count)?;
         Ok((Blocks::between(self.at, behind.at, count), behind))
     }
 
@@ -311,6 +321,9 @@ impl<'a> Cursor<'a> {
         ensures { Takes (elements_in self.entry.payload.now) (read_elements_for reasons (rest self.entry)) (ElementsFrom (moved self.entry 1)) result }
     {
         let (count, behind) = self.take_block_count(reasons)?;
+        if count < 8 {
+            return behind.take_few(count);
+        }
         behind.take_elements(count)
     }
 
