@@ -1,7 +1,7 @@
 #!/usr/bin/env python3
 """documents.py: holds README.md and docs/ to what they speak of. Part of the gate; needs the program felica as rt ci leaves it (running.py).
 
-- Lines: README.md has at most 80 of at most 110 characters, prose in docs/ at most 120. Rows of tables, code and a long piece of code within a line may be longer.
+- Lines: README.md has at most 80 of at most 110 characters, lines of docs/ at most 120 characters. Rows of tables, fenced blocks, a long piece of code within a line and a commit at its end may be longer.
 - Links lead to files that are there.
 - Commands: a block marked sh is run as it stands, and what it prints is the block marked text behind it. A block marked bash takes minutes or needs what is not here, and is not run.
 - Grounds and codes: those of docs/CALLS.md are those of include/felica.h, which tests/callers.sh holds to the code, and its codes those of docs/FORMAT.md.
@@ -34,11 +34,11 @@ def blocks_of(page):
 
 
 def prose_of(page):
-    """Each line that is no code and no row of a table, with its number."""
+    """Each line outside of fences that is no row of a table, with its number."""
     fenced = False
     for number, line in enumerate(page.read_text().splitlines(), 1):
         fenced ^= line.startswith("```")
-        if not fenced and not line.startswith(("|", "    ", "```")):
+        if not fenced and not line.startswith(("|", "```")):
             yield number, line
 
 
@@ -249,8 +249,8 @@ def main():
     for check in checks:
         try:
             found += check()
-        except FAILURES as failure:
-            found.append(f"{check.__name__}: {failure}")
+        except (*FAILURES, LookupError) as failure:
+            found.append(f"{check.__name__}: {failure!r}")
     print("".join(f"{line}\n" for line in found[:40]) + f"{len(PAGES)} documents, {len(layouts())} layouts: {len(found)} differ")
     return 1 if found else 0
 
