@@ -1,6 +1,6 @@
 -- The rules of the list reader, from its definition.
 -- Assumes nothing.
-use Rattle.std.proofs.Common.{ℕ, ◌≤◌, List, arith, ◌≡◌, refl, sym, ap, ◌∙◌, ◌⊎◌, inl, inr, Bool, true, false, Option, Some, Err, ⊎_elim}
+use Rattle.std.proofs.Common.{ℕ, ◌≤◌, List, arith, ◌≡◌, refl, sym, ap, ◌∙◌, ◌⊎◌, inl, inr, Bool, true, false, Option, Some, Err, ⊎_elim, length}
 use Rattle.felica_format.specs.Command.{Command}
 use Rattle.felica_format.specs.Read.{Answer as Reading, gives, refused, read_frame, read_payload, read_secure}
 use Rattle.felica_format.proofs.Steps.{not_given, given_is}
@@ -9,7 +9,7 @@ use Rattle.felica_command.specs.Meaning.{ParserResult, meaning, Canonical, refus
 use Rattle.felica_command.specs.Places.{places_of, read_places, Account}
 use Rattle.felica_format.specs.declared.error.Reason.TheVariants.{BufferTooSmall}
 use Rattle.felica_command.proofs.OneAccount.{one_account}
-use Rattle.felica_lists.specs.Lists.{lists_of, fits, fronts, Outcome, outcome, listed_if, listed}
+use Rattle.felica_lists.specs.Lists.{Buffers, lists_of, fits, fronts, Outcome, outcome, listed_if, listed}
 use Rattle.felica_lists.specs.Rules.{RefusedUntouched, TooSmall, TwentyOneExactly, FrameTwentyOne, PayloadTwentyOne, SecureTwentyOne, OneListAccount, ParsersResult, AcceptedIsParsed}
 
 pub refused_untouched : RefusedUntouched
@@ -19,6 +19,19 @@ refused_untouched (gives c long) b n code h = go (fits (lists_of c) b) h
     go true h = absurd (not_given (sym h))
     go false h = refl
 refused_untouched (refused m k) b n code h = refl
+
+-- what the list reader answers depends on the lengths of the buffers alone
+pub same_answer : (reading : Reading) (b d : Buffers) → length b.first ≡ length d.first → length b.second ≡ length d.second → length b.numbers ≡ length d.numbers
+    → length b.places ≡ length d.places → length b.modes ≡ length d.modes → (listed reading b).answer ≡ (listed reading d).answer
+unfolding fits
+same_answer (refused n code) b d e₁ e₂ e₃ e₄ e₅ = refl
+same_answer (gives c long) b d e₁ e₂ e₃ e₄ e₅ =
+    let room : fits (lists_of c) b ≡ fits (lists_of c) d = rw (e₁, e₂, e₃, e₄, e₅) refl in
+    rw room (go (fits (lists_of c) d))
+  where
+    go : (room : Bool) → (listed_if room c long b).answer ≡ (listed_if room c long d).answer
+    go true = refl
+    go false = refl
 
 -- the parser's own numbers are below 21
 abbrev Below : Reading → Type 0

@@ -2,13 +2,18 @@
 -- Assumes nothing.
 use Rattle.std.proofs.Common.{ℕ, ◌≤◌, ◌≡◌, sym, ap, ◌∙◌, true≢false, List, ◌++◌, length, take, drop, take-append-drop, length-take-le, arith}
 use Rattle.std.proofs.lemmas.List.{take-append-le}
-use Rattle.std.specs.Prelude.{Result, Ok, Err, OnOk, MatchResult}
+use Rattle.std.specs.Prelude.{Result, Ok, Err, OnOk, OnErr, MatchResult}
 use Rattle.std.specs.Result.{is_ok}
 
 -- a value that is there behind `map_err` was there before it
 pub from_ok : {A E D : Type 0} (r : Result A E) (q : Result A D) (P : E → Type 0) {x : A} → MatchResult r (λ (y : A). q ≡ Ok y) P → is_ok q ≡ is_ok r → q ≡ Ok x → r ≡ Ok x
 from_ok (Ok y) q P same ok is = cc
 from_ok (Err e) q P failed ok is = absurd (true≢false (sym (ap is_ok is) ∙ ok))
+
+-- what holds of an error there holds behind it
+pub on_err : {A E D : Type 0} (r : Result A E) (q : Result A D) (P : E → Type 0) {X : Type 0} {e : D} → MatchResult r (λ (y : A). q ≡ Ok y) P → is_ok q ≡ is_ok r → q ≡ Err e → OnErr r X → X
+on_err (Ok y) q P same ok is x = absurd (true≢false (sym ok ∙ ap is_ok is))
+on_err (Err e) q P failed ok is x = x
 
 pub ok_as : {A B E D : Type 0} (r : Result A E) (q : Result B D) (P : Type 0) → is_ok q ≡ is_ok r → OnOk r P → OnOk q P
 ok_as r (Err e) P same p = tt

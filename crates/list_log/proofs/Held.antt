@@ -1,10 +1,10 @@
 -- Steps over the bytes held, one behind another, and piece after piece of a log that is read and listed.
 -- Assumes nothing.
 use Rattle.std.proofs.Common.{ℕ, suc, ◌+◌, ◌-◌, ◌≤◌, ◌<◌, add-zero, arith, ◌≡◌, refl, sym, ap, ◌∙◌, subst, ◌⊎◌, inl, inr, Bool, true, false, ◌&&◌, true≢false, List, [], ◌∷◌, ◌++◌, append_assoc, append-nil, ltb, leb, length, get_or, take, drop, length-drop, length-append, length-take-le, drop-drop, get_or-drop, ltb-true, ltb-false, leb-true, leb-false, le-leb}
-use Rattle.std.specs.Prelude.{None, Some}
+use Rattle.std.specs.Prelude.{None, Some, Result, Ok, Err, IfErr}
 use Rattle.std.specs.declared.option.Option.{Option}
-use Rattle.std.specs.Io.KnownBytes.{Consumes, Appends, IsAtEnd}
-use Rattle.std.proofs.KnownBytes.{Appends-nil, Appends-trans, Consumes-nil, Consumes-trans}
+use Rattle.std.specs.Io.KnownBytes.{Consumes, Keeps, Appends, IsAtEnd}
+use Rattle.std.proofs.KnownBytes.{Appends-nil, Appends-trans, Consumes-nil, Consumes-trans, Consumes-kept}
 use Rattle.felica_put.specs.declared.Output.{Output}
 use Rattle.felica_put.specs.Output.{Puts, held}
 use Rattle.felica_put.specs.Put.{Buffer}
@@ -12,6 +12,8 @@ use Rattle.felica_put.proofs.Laws.{put_room, put_taken, put_within, kept}
 use Rattle.felica_totals.specs.declared.Totals.{Totals}
 use Rattle.felica_totals.specs.Count.{no_totals}
 use Rattle.felica_stream.specs.Held.{RoomMade}
+use Rattle.felica_stream.specs.declared.failure.Failure.{Failure}
+use Rattle.felica_stream.specs.declared.failure.Failure.TheVariants.{Read, Write}
 use Rattle.felica_stream.proofs.Held.{room_length, waits_inside, room_made, still_waits}
 use Rattle.felica_stream.proofs.Reading.{read_split}
 use Rattle.felica_log.specs.declared.Stop.{Stop}
@@ -21,7 +23,7 @@ use Rattle.felica_log.specs.Rules.{lines, Sound, NoneLeft}
 use Rattle.felica_log.proofs.Front.{front_whole}
 use Rattle.felica_log.proofs.Rules.{end_listed_from, full_behind, step_lists, step_keeps, step_inside, sound_kept, none_left_behind, room_used}
 use Rattle.felica_log.proofs.StepResult.{step_result}
-use Rattle.list_log.specs.Held.{HasLineRoom, ListedUpTo, RestKept, ReadAndListed, ReadToEnd, at_end, at_limit, too_long, AllRead, TakesListing, EndPut, over}
+use Rattle.list_log.specs.Held.{HasLineRoom, ListedUpTo, RestKept, ReadAndListed, WhereUnread, ReadToEnd, at_end, at_limit, too_long, AllRead, TakesListing, EndPut, over}
 
 -- where room is made for a line
 module _ {o p : Output ℕ} (made : RoomMade o p line_room) where
@@ -180,6 +182,16 @@ read_written q r v w z t {o} {p} bytes made more done =
       },
       refl,
     )
+
+-- a read that fails takes nothing from the reader
+pub read_failed : (q r s v w : Option (List ℕ)) (t : Totals) (c : Buffer) {before bytes : List ℕ} → Keeps r s → bytes ≡ before → ReadAndListed q r v w t c before → ReadAndListed q s v w t c bytes
+read_failed q r s v w t c kept same done =
+    rw same (record { log = done.log; written = done.written; lists = done.lists; given = Consumes-kept q r s done.log done.given kept; taken = done.taken })
+
+pub where_unread : {A : Type 0} (r : Result A Failure) {P : Type 0} → P → IfErr r (λ (why : Failure). WhereUnread why P)
+where_unread (Ok x) p = tt
+where_unread (Err Read) p = p
+where_unread (Err Write) p = tt
 
 -- so many bytes more have been read than before
 abbrev pub Longer : (q r v w : Option (List ℕ)) (t : Totals) (a : Buffer) (held : List ℕ) → ReadAndListed q r v w t a held → (p s y z : Option (List ℕ)) (u : Totals) (c : Buffer) (rest : List ℕ) → ℕ → Type 0

@@ -8,6 +8,8 @@ use Rattle.felica_totals.specs.declared.Totals.{Totals}
 use Rattle.felica_put.specs.Put.{Buffer}
 use Rattle.felica_put.specs.declared.Output.{Output}
 use Rattle.felica_stream.specs.Held.{still_waiting, IsWithin}
+use Rattle.felica_stream.specs.declared.failure.Failure.{Failure}
+use Rattle.felica_stream.specs.declared.failure.Failure.TheVariants.{Read, Write}
 use Rattle.felica_log.specs.Listing.{max_records, records_left, listing_from, listing}
 use Rattle.felica_log.specs.Step.{line_room}
 use Rattle.felica_log.specs.Rules.{NoneLeft}
@@ -49,6 +51,11 @@ pub data ReadToEnd (r : Option (List ℕ)) (t : Totals) (held log : List ℕ) : 
 -- The same of the log that has been read, which is read to its end.
 abbrev pub AllRead : Option (List ℕ) → Option (List ℕ) → Option (List ℕ) → Option (List ℕ) → Totals → Buffer → List ℕ → Type 0
 AllRead q r v w t c held = (x : ReadAndListed q r v w t c held) × ReadToEnd r t held x.log
+
+-- what holds where a read failed; of a write that failed it says nothing
+abbrev pub WhereUnread : Failure → Type 0 → Type 0
+WhereUnread Read p = p
+WhereUnread Write p = Unit {0}
 
 -- Where it is known what the reader has left, and that is no longer than a machine can count, the writer takes its listing.
 abbrev pub TakesListing : Option (List ℕ) → Option (List ℕ) → Option (List ℕ) → Type 0

@@ -1,15 +1,15 @@
 // Lists a log: reads it on standard input, and writes a line for each record to standard output.
 #![tactic(auto)]
 
-ghost use Rattle.std.specs.Prelude.{◌≡◌, ◌≤◌, ◌<◌, ◌+◌, true, false, ◌++◌, IfOk, OnOk, length, take, drop};
-ghost use Rattle.std.specs.Io.KnownBytes.{Consumes, Appends, IsAtEnd};
+ghost use Rattle.std.specs.Prelude.{◌≡◌, ◌≤◌, ◌<◌, ◌+◌, true, false, ◌++◌, IfOk, OnOk, IfErr, OnErr, length, take, drop};
+ghost use Rattle.std.specs.Io.KnownBytes.{Consumes, Keeps, Appends, IsAtEnd};
 ghost use Rattle.std.specs.Process.{exit_status};
 ghost use Rattle.felica_put.specs.Output.{held as put_in};
 ghost use Rattle.felica_totals.specs.Count.{no_totals};
 ghost use Rattle.felica_log.specs.Listing.{max_records};
 ghost use Rattle.felica_log.specs.Step.{line_room, end_text};
 ghost use Rattle.felica_log.specs.Rules.{Sound, NoneLeft};
-ghost use Rattle.list_log.specs.Held.{HasLineRoom, AllListed, RestKept, bytes_in, AllRead, TakesListing, EndPut, over};
+ghost use Rattle.list_log.specs.Held.{HasLineRoom, AllListed, RestKept, ReadAndListed, WhereUnread, bytes_in, AllRead, TakesListing, EndPut, over};
 
 mod input;
 mod usage;
@@ -81,6 +81,7 @@ fn read_piece<R: Read>(reader: &mut R, input: &mut Input) -> io::Result<bool>
     ensures end { IfOk result (λ ended. ended ≡ true → IsAtEnd (R.remaining reader.new)) }
     ensures more { IfOk result (λ ended. ended ≡ false → input.old.held < input.new.held) }
     ensures kept { OnOk result ((input.old.held ≤ input.new.held) × (take input.old.held input.new.room.now ≡ bytes_in input.old)) }
+    ensures err { OnErr result (Keeps (R.remaining reader.old) (R.remaining reader.new) × (bytes_in input.new ≡ bytes_in input.old)) }
 {
     let held = input.held;
     let more = read_more(reader, &mut *input.room, held)?;
@@ -99,6 +100,7 @@ fn feed<R: Read, W: Write>(
     requires started { (input.old.held ≡ 0) × (listing.old.out.len ≡ 0) × (listing.old.totals ≡ no_totals) }
     ensures all { OnOk result (AllRead (R.remaining reader.old) (R.remaining reader.new) (W.contents writer.old) (W.contents writer.new) listing.new.totals (put_in listing.new.out) (bytes_in input.new)) }
     ensures none_left { OnOk result (NoneLeft listing.new.totals (bytes_in input.new)) }
+    ensures unread { IfErr result (λ why. WhereUnread why (ReadAndListed (R.remaining reader.old) (R.remaining reader.new) (W.contents writer.old) (W.contents writer.new) listing.new.totals (put_in listing.new.out) (bytes_in input.new))) }
 {
     for _ in 0..u64::MAX {
         let all = listing.out.room.len();

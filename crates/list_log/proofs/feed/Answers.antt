@@ -2,10 +2,10 @@
 -- Assumes nothing.
 use Rattle.std.proofs.Common.{ℕ, sym, ap, ◌∙◌, arith, length, take, length-take-le}
 use Rattle.felica_put.specs.Output.{held}
-use Rattle.felica_stream.proofs.Reading.{from_ok}
+use Rattle.felica_stream.proofs.Reading.{from_ok, on_err}
 use Rattle.felica_log.proofs.Rules.{nothing_left_over}
 use Rattle.list_log.specs.Held.{bytes_in, too_long}
-use Rattle.list_log.proofs.Held.{none_kept, held_short, read_none, read_written, read_turn, goes_on, all_read_once_over}
+use Rattle.list_log.proofs.Held.{none_kept, held_short, read_none, read_written, read_failed, where_unread, read_turn, goes_on, all_read_once_over}
 use Rattle.list_log.proofs.feed.Goals as goal
 
 pub loop-init : goal.loop-init
@@ -59,3 +59,11 @@ loop-preserved g c =
 
 pub returns-clause-all : goal.returns-clause-all
 returns-clause-all g c = let read = c.loop.invariant.read in (read.0, too_long (omega (arith, read.1, c.loop-test.false)))
+
+pub returns-in_err-ended-clause-unread : goal.returns-in_err-ended-clause-unread
+returns-in_err-ended-clause-unread g c =
+    let loop = c.loop in
+    let wrote = rw (from_ok _ _ _ c.map_err.ensures.cases c.map_err.ensures.variant c.in_ok-map_err.was) at c.make_room.ensures.bytes in
+    let waits = read_written _ _ _ _ _ loop.listing.totals (bytes_in loop.input) c.make_room.ensures.out wrote loop.invariant.read.0 in
+    let failed = on_err _ _ _ c.map_err-in-loop.ensures.cases c.map_err-in-loop.ensures.variant c.in_err-ended.was c.read_piece.ensures.err in
+    where_unread _ (read_failed _ _ _ _ _ _ _ failed.0 failed.1 waits.0)
