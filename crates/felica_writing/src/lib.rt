@@ -61,6 +61,7 @@ fn answer_named(size: usize, code: u8, named: &Named, out: &mut Output<u8>)
     let mut modes = [0; MAX_SMALL];
     let mut data = [0; MAX_BYTES];
     let mut package = [0; MAX_BYTES];
+    let mut room = [0; MAX_ROOM];
     let command = Handed {
         code,
         fixed: named.fixed(code),
@@ -72,10 +73,9 @@ fn answer_named(size: usize, code: u8, named: &Named, out: &mut Output<u8>)
         data: bytes_in(named, Field::Data, &mut data),
         package: bytes_in(named, Field::Package, &mut package),
     };
-    let mut room = [0; MAX_ROOM];
-    let room = &mut room[..size];
-    let written = write(command, room);
-    put_written(out, written, room);
+    let lent = &mut room[..size];
+    let written = write(command, lent);
+    put_written(out, written, lent);
 }
 
 // The list of a field, in a lent buffer. What `filled` lends ends with `list`, so that it is cut from `room` again; `bytes_in` does the same.
