@@ -1,11 +1,11 @@
 -- What is put into a buffer, piece after piece.
 -- Assumes nothing.
 use Rattle.std.proofs.Common.{ℕ, suc, ◌+◌, ◌-◌, ◌≤◌, ◌<◌, ◌≡◌, refl, sym, ap, ◌∙◌, List, [], ◌∷◌, ◌++◌, zero-add, add-one, arith}
-use Rattle.std.proofs.Common.{length, set, take, drop, length-append, length-drop}
-use Rattle.std.proofs.Math.Seq.{take-append_seam}
+use Rattle.std.proofs.Common.{slice_index_or, length, set, take, drop, length-append, length-drop}
+use Rattle.std.proofs.Math.Seq.{take-append_seam, take-suc}
 use Rattle.std.proofs.lemmas.Bool.{lt-ltb, le-ltb}
 use Rattle.std.proofs.lemmas.Bool.Decides.{nat_tests}
-use Rattle.std.proofs.lemmas.List.{drop-set-lt, length-set, length-take-le, take_all, take-append-drop}
+use Rattle.std.proofs.lemmas.List.{take_more_set, drop-set-lt, length-set, length-take-le, take_all, take-append-drop}
 use Rattle.std.proofs.lemmas.List.Edits.{sets, sets-eq}
 -- one more entry of a list
 pub use Rattle.std.proofs.lemmas.List.{drop_more as drop_next}
@@ -127,3 +127,9 @@ put_first vs l at k full more =
     let long : length (take at l ++ some ++ drop (at + length some) l) ≡ length l = ap (λ b. length b.bytes) (sym filled) ∙ (kept (buffer l at) some).long in
     filled ∙ put_over (drop k vs) _ (at + length some) (λ left. omega arith)
     ∙ ap (λ b. put b (drop k vs)) (sym filled) ∙ sym (put_append (buffer l at) some (drop k vs)) ∙ ap (put (buffer l at)) (take-append-drop k vs)
+
+-- one more item copied to its place
+pub copied_next : {A : Type 0} (room items : List A) (i : ℕ) (item : A) → take i room ≡ take i items → i < length room → i < length items → item ≡ slice_index_or items i item
+    → take (i + 1) (set room i item) ≡ take (i + 1) items
+copied_next room items i item same room_left left is =
+    take_more_set room i item room_left ∙ ap (λ xs. xs ++ item ∷ []) same ∙ ap (λ x. take i items ++ x ∷ []) is ∙ rw add-one (sym (take-suc items i item left))

@@ -14,14 +14,15 @@ pub fn hex_digit(value: u8) -> u8
     }
 }
 
-// The number of a digit, if the byte is one. `char::to_digit` gives a `u32`, which would have to be cast.
+// The number of a digit, if the byte is one. `char::to_digit` gives a `u32`, which would have to be cast. A small letter is taken as its capital first: with a third range
+// the compiler jumps by each digit, which a processor can't foresee.
 pub fn digit_value(digit: u8) -> Option<u8>
     ensures { result ≡ digit_of digit }
 {
-    match digit {
-        b'0'..=b'9' => Some(digit - b'0'),
-        b'A'..=b'F' => Some(digit - b'A' + 10),
-        b'a'..=b'f' => Some(digit - b'a' + 10),
+    let capital = if digit < b'a' { digit } else { digit - 32 };
+    match capital {
+        b'0'..=b'9' => Some(capital - b'0'),
+        b'A'..=b'F' => Some(capital - b'A' + 10),
         _ => None,
     }
 }

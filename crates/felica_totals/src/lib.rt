@@ -2,7 +2,7 @@
 #![tactic(auto)]
 
 ghost use Rattle.std.specs.Prelude.{◌≡◌};
-ghost use Rattle.felica_totals.specs.Count.{no_totals, has_room, counted_record};
+ghost use Rattle.felica_totals.specs.Count.{no_totals, has_room, counted_within, counted_record};
 
 #[derive(Clone, Copy, Debug, Default, PartialEq, Eq)]
 pub struct Totals {
@@ -34,22 +34,9 @@ impl Totals {
     pub fn counted(self, accepted: Option<usize>) -> Totals
         ensures { result ≡ counted_record self accepted }
     {
-        if !self.has_room(accepted.unwrap_or(0)) {
-            return self;
-        }
-        let records = self.records + 1;
         match accepted {
-            Some(blocks) => Totals {
-                records,
-                accepted: self.accepted + 1,
-                blocks: self.blocks + blocks,
-                ..self
-            },
-            None => Totals {
-                records,
-                refused: self.refused + 1,
-                ..self
-            },
+            Some(blocks) => after_record(self, true, blocks),
+            None => after_record(self, false, 0),
         }
     }
 
@@ -59,4 +46,37 @@ impl Totals {
     {
         *self = self.counted(accepted);
     }
+}
+
+// The totals after one more record. Its blocks have to find room whether it was accepted or refused; they are counted where it was accepted. Without room the totals stay as
+// they were.
+pub fn after_record(totals: Totals, accepted: bool, blocks: usize) -> Totals
+    ensures { result ≡ counted_within totals accepted blocks }
+{
+    if !totals.has_room(blocks) {
+        return totals;
+    }
+    let records = totals.records + 1;
+    let sum = totals.blocks + blocks;
+    if accepted {
+        Totals {
+            records,
+            accepted: totals.accepted + 1,
+            blocks: sum,
+            ..totals
+        }
+    } else {
+        Totals {
+            records,
+            refused: totals.refused + 1,
+            ..totals
+        }
+    }
+}
+
+// Brings lent totals up to date.
+pub fn count_record(totals: &mut Totals, accepted: bool, blocks: usize)
+    ensures { totals.new ≡ counted_within totals.old accepted blocks }
+{
+    *totals = after_record(*totals, accepted, blocks);
 }

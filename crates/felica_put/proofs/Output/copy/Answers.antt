@@ -5,4 +5,4 @@ use Rattle.felica_put.proofs.Laws.{put_copied}
 use Rattle.felica_put.proofs.Output.copy.Goals as goal
 
 pub returns : goal.returns
-returns g c = record { same_reference = refl; held = put_copied _ _ _ _ _ _ c.requires.fitting (omega arith) refl c.copy_from_slice.ensures.after }
+returns g c = record { same_reference = refl; held = put_copied _ _ _ _ _ _ c.requires.fitting (omega arith) refl c.copy_over.ensures }
