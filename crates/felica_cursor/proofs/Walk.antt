@@ -5,15 +5,15 @@ use Rattle.std.proofs.lemmas.Bool.{le-ltb}
 use Rattle.std.proofs.lemmas.List.{length-map}
 use Rattle.std.proofs.lemmas.Result.{err_from_is_err_and}
 use Rattle.felica_format.specs.Basic.{taken, refuse, bind, refuse_if, zeros}
-use Rattle.felica_format.specs.Command.{EndFields, Element, Formed, long_count, command_of, no_fields}
+use Rattle.felica_format.specs.Command.{Command, EndFields, Element, Formed, long_count, command_of, no_fields}
 use Rattle.felica_format.specs.Layout.{Selector, no_selector, Codes, no_codes, ◌to◌, Ending, bare, Behind, nothing, ignored_bytes, a_package, Layout, layout, layout_of}
 use Rattle.felica_format.specs.Read.{read_idm, read_selector, words_of, read_codes, read_each, read_elements, read_data, size_of, read_ending, read_values, read_package, if_codes}
-use Rattle.felica_format.specs.Read.{counted, read_body}
+use Rattle.felica_format.specs.Read.{counted, read_body, answer_of}
 use Rattle.felica_format.specs.Reasons.{number_of}
 use Rattle.felica_format.specs.declared.error.Reason.{Reason}
 use Rattle.felica_command.specs.Types.{property_of, property_index}
-use Rattle.felica_command.specs.Meaning.{part, no_part, codes_at, formed_at, bytes_at, fields, fields_of, refusal, bare as bare_parsed}
-use Rattle.felica_command.specs.Places.{first_at, idm_size, selector_size, codes_part, codes_size, elements_size, blocks_part, blocks_size, data_part, package_part, layout_places}
+use Rattle.felica_command.specs.Meaning.{part, no_part, codes_at, formed_at, bytes_at, Fields, fields, fields_of, command_is, refusal, bare as bare_parsed}
+use Rattle.felica_command.specs.Places.{first_at, idm_size, selector_size, codes_part, codes_size, elements_size, blocks_part, blocks_size, data_part, package_part, layout_places, places_in, Account}
 use Rattle.felica_command.specs.declared.types.ContainerProperty.{ContainerProperty}
 use Rattle.felica_command.specs.declared.command.Part.{Part}
 use Rattle.felica_command.specs.declared.command.FelicaStandardCommand.{FelicaStandardCommand}
@@ -26,6 +26,27 @@ use Rattle.felica_cursor.specs.Steps.{elements_in, CodesFrom, ElementsFrom, Data
 use Rattle.felica_cursor.specs.Body.{BodyRead, result_of}
 use Rattle.felica_cursor.specs.declared.cursor.Blocks.{Blocks}
 use Rattle.felica_cursor.specs.declared.cursor.Cursor.{Cursor}
+
+-- the steps of a body, in field order
+pub body : (code : ℕ) (l : Layout) (s : List ℕ) → read_body code l s ≡ (bind (read_idm l.idm s) λ idm s₁.
+    bind (read_selector l.selector s₁) λ selector s₂.
+    bind (read_codes 9 10 l.first s₂) λ first s₃.
+    bind (read_codes 11 12 l.second s₃) λ second s₄.
+    bind (read_elements (if_codes l.first 11 9) (if_codes l.first 12 10) l.elements s₄) λ blocks s₅.
+    bind (read_data l.block_data (length blocks) s₅) λ block_data s₆.
+    bind (read_ending l.ending l.behind s₆) λ values s₇.
+    bind (read_package l.behind s₇) λ issue_package s₈.
+    taken (counted (command_of code idm selector first second (map (λ b. b.element) blocks) block_data values issue_package) (long_count blocks)) s₈)
+unfolding read_body
+body code l s = refl
+
+-- a body that is accepted
+pub accepted_at : (s : List ℕ) (at code : ℕ) (l : Layout) (kind : FelicaStandardCommand) (f : Fields) (idm challenge : List ℕ) (long n : ℕ) (left : List ℕ) (c : Command)
+    → long ≡ n → layout_of code ≡ l → fields_of kind ≡ f → read_body code l (drop at s) ≡ taken (counted c n) left → command_is s idm challenge f ≡ c → c.code ≡ code
+    → places_in f ≡ layout_places l at s c → f.property ≡ property_of (property_index f.property)
+    → Account s at (answer_of code (read_body code (layout_of code) (drop at s))) (Ok (record { command = kind; idm = idm; challenge = challenge; long = long }))
+accepted_at s at code l kind f idm challenge long n left c count is fields walk meant coded placed property =
+    rw (is, walk, fields) (rw (meant, count) refl, placed ∙ ap (λ (k : Layout). layout_places k at s c) (sym (ap layout_of coded ∙ is)), property)
 
 pub record HasLayout (code : ℕ) (l : Layout) : Type 0 where
   pub is : layout_of code ≡ l
@@ -181,45 +202,45 @@ module _ (from : Cursor) {code : ℕ} {l : Layout} (its : HasLayout code l) wher
 
   pub idm_refused : {T : Type 0} {meant : T → List ℕ} {P : T → Cursor → Type 0} {why : Reason}
       → Takes meant (read_idm l.idm (rest from)) P (Err why) → (r : Result Parsed Reason) → IsErrAnd r (λ y. y ≡ why) → BodyRead from code r
-  unfolding read_body bind
-  idm_refused {why = why} t r e = turned_down why r (rw t.read refl) e
+  unfolding bind
+  idm_refused {why = why} t r e = turned_down why r (body code l (rest from) ∙ rw t.read refl) e
 
   module _ {idm : List ℕ} {c₁ : Cursor} (a : IdmRead l.idm from idm c₁) where
     pub selector_refused : {T : Type 0} {meant : T → ℕ} {P : T → Cursor → Type 0} {why : Reason}
         → Takes meant (read_selector l.selector (rest c₁)) P (Err why) → (r : Result Parsed Reason) → IsErrAnd r (λ y. y ≡ why) → BodyRead from code r
-    unfolding read_body bind
-    selector_refused {why = why} t r e = turned_down why r (rw (a.read, t.read) refl) e
+    unfolding bind
+    selector_refused {why = why} t r e = turned_down why r (body code l (rest from) ∙ rw (a.read, t.read) refl) e
 
     module _ {byte : ℕ} {c₂ : Cursor} (b : SelectorRead l.selector c₁ byte c₂) where
       pub first_refused : {T : Type 0} {meant : T → List ℕ} {P : T → Cursor → Type 0} {why : Reason}
           → Takes meant (read_codes 9 10 l.first (rest c₂)) P (Err why) → (r : Result Parsed Reason) → IsErrAnd r (λ y. y ≡ why) → BodyRead from code r
-      unfolding read_body bind
-      first_refused {why = why} t r e = turned_down why r (rw (a.read, b.read, t.read) refl) e
+      unfolding bind
+      first_refused {why = why} t r e = turned_down why r (body code l (rest from) ∙ rw (a.read, b.read, t.read) refl) e
 
       module _ {f : Part} {c₃ : Cursor} (c : CodesRead 9 10 l.first c₂ f c₃) where
         pub second_refused : {T : Type 0} {meant : T → List ℕ} {P : T → Cursor → Type 0} {why : Reason}
             → Takes meant (read_codes 11 12 l.second (rest c₃)) P (Err why) → (r : Result Parsed Reason) → IsErrAnd r (λ y. y ≡ why) → BodyRead from code r
-        unfolding read_body bind
-        second_refused {why = why} t r e = turned_down why r (rw (a.read, b.read, c.read, t.read) refl) e
+        unfolding bind
+        second_refused {why = why} t r e = turned_down why r (body code l (rest from) ∙ rw (a.read, b.read, c.read, t.read) refl) e
 
         module _ {g : Part} {c₄ : Cursor} (d : CodesRead 11 12 l.second c₃ g c₄) where
           pub blocks_refused : {T : Type 0} {meant : T → List Formed} {P : T → Cursor → Type 0} {why : Reason}
               → Takes meant (read_elements (if_codes l.first 11 9) (if_codes l.first 12 10) l.elements (rest c₄)) P (Err why)
               → (r : Result Parsed Reason) → IsErrAnd r (λ y. y ≡ why) → BodyRead from code r
-          unfolding read_body bind
-          blocks_refused {why = why} t r e = turned_down why r (rw (a.read, b.read, c.read, d.read, t.read) refl) e
+          unfolding bind
+          blocks_refused {why = why} t r e = turned_down why r (body code l (rest from) ∙ rw (a.read, b.read, c.read, d.read, t.read) refl) e
 
           module _ {list : Part} {long : ℕ} {c₅ : Cursor} (h : BlocksRead (if_codes l.first 11 9) (if_codes l.first 12 10) l.elements c₄ list long c₅) where
             pub data_refused : {T : Type 0} {meant : T → List ℕ} {P : T → Cursor → Type 0} {why : Reason}
                 → Takes meant (read_data l.block_data list.count (rest c₅)) P (Err why) → (r : Result Parsed Reason) → IsErrAnd r (λ y. y ≡ why) → BodyRead from code r
-            unfolding read_body bind
-            data_refused {why = why} t r e = turned_down why r (rw (a.read, b.read, c.read, d.read, h.read, h.count, t.read) refl) e
+            unfolding bind
+            data_refused {why = why} t r e = turned_down why r (body code l (rest from) ∙ rw (a.read, b.read, c.read, d.read, h.read, h.count, t.read) refl) e
 
             module _ {p : Part} {c₆ : Cursor} (k : DataRead l.block_data list.count c₅ p c₆) where
               pub ending_refused : {T : Type 0} {meant : T → EndFields} {P : T → Cursor → Type 0} {why : Reason}
                   → Takes meant (read_ending l.ending l.behind (rest c₆)) P (Err why) → (r : Result Parsed Reason) → IsErrAnd r (λ y. y ≡ why) → BodyRead from code r
-              unfolding read_body bind
-              ending_refused {why = why} t r e = turned_down why r (rw (a.read, b.read, c.read, d.read, h.read, h.count, k.read, t.read) refl) e
+              unfolding bind
+              ending_refused {why = why} t r e = turned_down why r (body code l (rest from) ∙ rw (a.read, b.read, c.read, d.read, h.read, h.count, k.read, t.read) refl) e
 
               module _ {values : EndFields} {q : Part} (m : EndRead l.ending l.behind c₆ values q) where
                 pub accepted : {plain : Parsed} {command : FelicaStandardCommand} {property : ContainerProperty}
@@ -227,7 +248,7 @@ module _ (from : Cursor) {code : ℕ} {l : Layout} (its : HasLayout code l) wher
                     → fields_of command ≡ fields code byte f g list p values.number values.index values.option values.choice q property
                     → property ≡ property_of (property_index property)
                     → BodyRead from code (Ok (record { command = command; idm = idm; challenge = values.challenge; long = long }))
-                unfolding read_body bind layout_places
+                unfolding bind layout_places
                 accepted its_command said canonical =
                     let s₂ : c₂.payload ≡ from.payload = ap (λ (x : Cursor). x.payload) b.placed ∙ ap (λ (x : Cursor). x.payload) a.placed in
                     let s₃ : c₃.payload ≡ from.payload = ap (λ (x : Cursor). x.payload) c.placed ∙ s₂ in
@@ -248,19 +269,12 @@ module _ (from : Cursor) {code : ℕ} {l : Layout} (its : HasLayout code l) wher
                     let q_is : bytes_at from.payload.now q ≡ m.bytes = rw (← s₆) (sym m.there) in
                     let read : read_body code l (rest from)
                     ≡ taken (counted (command_of code idm byte c.codes d.codes (map (λ x. x.element) h.elements) k.bytes values m.bytes) (long_count h.elements)) m.left
-                    = rw (a.read, b.read, c.read, d.read, h.read, h.count, k.read, m.read, m.tail_read) refl in
+                    = body code l (rest from) ∙ rw (a.read, b.read, c.read, d.read, h.read, h.count, k.read, m.read, m.tail_read) refl in
                     let numbers : length (map (λ (x : Element). x.number) (map (λ (x : Formed). x.element) h.elements)) ≡ length h.elements
                     = length-map (map (λ (x : Formed). x.element) h.elements) (λ (x : Element). x.number) ∙ length-map h.elements (λ (x : Formed). x.element) in
-                    rw (its.is, read, said) (
-                      rw (f_is, g_is, list_is, p_is, q_is, h.counted_long) refl,
-                      rw (its.is, numbers) (places_eq
-                          (c.spot ∙ rw n₂ refl)
-                          (d.spot ∙ rw n₃ refl)
-                          (h.spot ∙ rw n₄ refl)
-                          (k.spot ∙ rw (n₅, s₄, n₄) refl)
-                          (m.spot ∙ rw (n₆, s₄, n₄) refl)),
-                      canonical,
-                    )
+                    accepted_at _ _ _ _ _ _ _ _ _ _ _ _ h.counted_long its.is said read (rw (f_is, g_is, list_is, p_is, q_is) refl) refl
+                    (rw numbers (places_eq (c.spot ∙ rw n₂ refl) (d.spot ∙ rw n₃ refl) (h.spot ∙ rw n₄ refl) (k.spot ∙ rw (n₅, s₄, n₄) refl) (m.spot ∙ rw (n₆, s₄, n₄) refl)))
+                    canonical
 
 -- the same for a layout of fixed bytes alone, behind an IDm or none
 module _ (from : Cursor) {code : ℕ} {has : Bool} {e : Ending} {b : Behind} (its : HasLayout code (layout has no_selector no_codes no_codes false false e b)) where
