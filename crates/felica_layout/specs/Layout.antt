@@ -8,7 +8,7 @@ use Rattle.felica_format.specs.Layout.{class_of, layout_of}
 use Rattle.felica_layout.specs.declared.Selector.{Selector}
 use Rattle.felica_layout.specs.declared.Selector.TheVariants.{TypeByte, AnyByte}
 use Rattle.felica_layout.specs.declared.Ending.{Ending}
-use Rattle.felica_layout.specs.declared.Ending.TheVariants.{EightBytes, SixteenBytes, Word, Words, Reserved, Polling, Parameter}
+use Rattle.felica_layout.specs.declared.Ending.TheVariants.{Bytes, Word, Words, Reserved, Polling, Parameter}
 use Rattle.felica_layout.specs.declared.Behind.{Behind}
 use Rattle.felica_layout.specs.declared.Behind.TheVariants.{IgnoredBytes, Package}
 use Rattle.felica_layout.specs.declared.Layout.{Layout}
@@ -25,8 +25,7 @@ codes_meant (Some b) = format.◌to◌ b.least b.greatest
 
 abbrev pub ending_meant : Option Ending → format.Ending
 ending_meant None = format.bare
-ending_meant (Some EightBytes) = format.bytes 8
-ending_meant (Some SixteenBytes) = format.bytes 16
+ending_meant (Some (Bytes n)) = format.bytes n
 ending_meant (Some Word) = format.word
 ending_meant (Some Words) = format.words
 ending_meant (Some Reserved) = format.reserved

@@ -22,9 +22,8 @@ pub enum Selector {
 // The fixed bytes that end a body.
 #[derive(Clone, Copy, PartialEq, Eq, Debug)]
 pub enum Ending {
-    // Bytes of the challenge; of 80 the issue id and the issue parameter.
-    EightBytes,
-    SixteenBytes,
+    // So many bytes of the challenge; of 80 the issue id and the issue parameter.
+    Bytes(usize),
     // One two-byte number.
     Word,
     // Two of them.
@@ -88,7 +87,7 @@ pub fn row_of(code: u8) -> Row
         constants::SEARCH_SERVICE_CODE_COMMAND_CODE
         | constants::GET_AREA_INFORMATION_COMMAND_CODE => fixed(true, Ending::Word),
         constants::AUTHENTICATION1_COMMAND_CODE => two_code_lists(),
-        constants::AUTHENTICATION2_COMMAND_CODE => fixed(true, Ending::EightBytes),
+        constants::AUTHENTICATION2_COMMAND_CODE => fixed(true, Ending::Bytes(8)),
         constants::REQUEST_CODE_LIST_COMMAND_CODE => fixed(true, Ending::Words),
         constants::SET_PARAMETER_COMMAND_CODE => fixed(true, Ending::Parameter),
         constants::GET_CONTAINER_ISSUE_INFORMATION_COMMAND_CODE
@@ -104,9 +103,9 @@ pub fn row_of(code: u8) -> Row
         constants::AUTHENTICATION1_V2_COMMAND_CODE => coded(
             Some(Selector::AnyByte),
             SERVICE_CODES,
-            Some(Ending::SixteenBytes),
+            Some(Ending::Bytes(16)),
         ),
-        constants::AUTHENTICATION2_V2_COMMAND_CODE => fixed(true, Ending::SixteenBytes),
+        constants::AUTHENTICATION2_V2_COMMAND_CODE => fixed(true, Ending::Bytes(16)),
         constants::GET_CONTAINER_ID_COMMAND_CODE => fixed(false, Ending::Reserved),
         _ => secure_row(code),
     }
@@ -132,7 +131,7 @@ fn secure_row(code: u8) -> Row
         constants::REGISTER_ISSUE_ID_COMMAND_CODE => payload_row(
             false,
             false,
-            Some(Ending::SixteenBytes),
+            Some(Ending::Bytes(16)),
             Some(Behind::Package),
         ),
         constants::REGISTER_AREA_COMMAND_CODE | constants::REGISTER_SERVICE_COMMAND_CODE =>
@@ -177,7 +176,7 @@ fn two_code_lists() -> Row
         idm: true,
         first: Some(constants::AREA_AND_SERVICE_CODES),
         second: Some(constants::AREA_AND_SERVICE_CODES),
-        ending: Some(Ending::EightBytes),
+        ending: Some(Ending::Bytes(8)),
         ..Layout::default()
     })
 }

@@ -46,7 +46,7 @@ fn greatest_of(ending: Option<Ending>) -> Greatest
 {
     let none = Greatest::default();
     match ending {
-        None | Some(Ending::EightBytes | Ending::SixteenBytes | Ending::Reserved) => none,
+        None | Some(Ending::Bytes(_) | Ending::Reserved) => none,
         Some(Ending::Word) => Greatest {
             number: u16::MAX,
             ..none
@@ -76,14 +76,15 @@ fn choice_ok(ending: Option<Ending>, choice: u8) -> bool
     }
 }
 
-// A match, and no slice from a place in a variable, so that the compiler knows of each ending how many bytes it tests. `greatest_of` and `choice_ok` match on their own: each
-// gives another column of `ranges_of`.
+// Endings of eight and of sixteen bytes, which alone the layouts of codes have, and those of none have arms of their own, so that the compiler knows how many bytes it tests.
+// `greatest_of` and `choice_ok` match on their own: each gives another column of `ranges_of`.
 fn challenge_ok(ending: Option<Ending>, challenge: [u8; 16]) -> bool
     ensures { result ≡ (are_bytes 16 challenge and same_list (drop (ranges_of (ending_meant ending)).filled challenge) (zeros (16 - (ranges_of (ending_meant ending)).filled))) }
 {
     match ending {
-        Some(Ending::SixteenBytes) => true,
-        Some(Ending::EightBytes) => all_zero(&challenge[8..]),
+        Some(Ending::Bytes(8)) => all_zero(&challenge[8..]),
+        Some(Ending::Bytes(16)) => true,
+        Some(Ending::Bytes(filled)) => all_zero(challenge.get(filled..).unwrap_or(&[])),
         _ => all_zero(&challenge),
     }
 }

@@ -62,7 +62,7 @@ module _ (c : Command) (k : Class) (l : Layout) (found : row k l ≡ row_of c.co
   unfolding row_of
   layout_is = ap (λ r. r.layout) found
 
-  narrow : Narrow l
+  pub narrow : Narrow l
   narrow = subst Narrow (sym layout_is) (every_layout c.code)
 
   pub may_be_put : body_ok l c ≡ true → Ready c

@@ -1,7 +1,8 @@
 // The parts of a body, put into a buffer one behind the other.
-ghost use Rattle.std.specs.Prelude.{false, [], ◌<◌};
+ghost use Rattle.std.specs.Prelude.{false, [], ◌<◌, ◌≤◌};
 ghost use Rattle.felica_format.specs.Basic.{word_bytes};
 ghost use Rattle.felica_format.specs.Command.{end_fields, elements_of};
+ghost use Rattle.felica_format.specs.Read.{size_of};
 ghost use Rattle.felica_format.specs.Write.{data_bytes, package_bytes, selector_bytes, codes_bytes, element_bytes, elements_bytes, ending_bytes, body_bytes};
 ghost use Rattle.felica_layout.specs.Layout.{layout_meant, selector_meant, codes_meant, ending_meant, behind_meant};
 ghost use Rattle.felica_put.specs.Output.{Puts};
@@ -19,7 +20,8 @@ pub(crate) const LEAST_LONG: u16 = 256;
 
 // `Ready` is asked by three functions and not said by a type: `Handed` is public, so that a ghost field would ask it of callers.
 pub(crate) fn put_body(out: &mut Output<'_, u8>, layout: Layout, command: Handed<'_>)
-    requires { Ready (handed_by command) }
+    requires ready { Ready (handed_by command) }
+    requires few_fixed { size_of (ending_meant layout.ending) ≤ 16 }
     ensures { Puts out.old out.new (body_bytes (layout_meant layout) [] (handed_by command.entry)) }
 {
     let fixed = command.fixed;
@@ -114,12 +116,15 @@ fn put_element(out: &mut Output<'_, u8>, number: u16, place: u8, mode: u8)
 
 #[tactic(auto, unfolding(felica_format::specs::Write::ending_bytes, felica_put::specs::Put::put))]
 fn put_ending(out: &mut Output<'_, u8>, ending: Option<Ending>, fixed: Fixed)
+    requires { size_of (ending_meant ending) ≤ 16 }
     ensures { Puts out.old out.new (ending_bytes (ending_meant ending) (end_fields fixed.number fixed.index fixed.option fixed.choice fixed.challenge)) }
 {
     match ending {
         None => {}
-        Some(Ending::EightBytes) => out.put_all(&fixed.challenge[..8]),
-        Some(Ending::SixteenBytes) => out.put_all(&fixed.challenge),
+        // Eight and sixteen apart, so that the compiler knows how many bytes it copies.
+        Some(Ending::Bytes(8)) => out.put_all(&fixed.challenge[..8]),
+        Some(Ending::Bytes(16)) => out.put_all(&fixed.challenge),
+        Some(Ending::Bytes(count)) => out.put_all(&fixed.challenge[..count]),
         Some(Ending::Word) => put_word(out, fixed.number),
         Some(Ending::Words) => {
             put_word(out, fixed.number);

@@ -15,7 +15,8 @@ use felica_writable::handed::Handed;
 
 // All but the package.
 pub(crate) fn body_size(layout: Layout, command: Handed<'_>) -> usize
-    requires { Ready (handed_by command) }
+    requires ready { Ready (handed_by command) }
+    requires few_fixed { size_of (ending_meant layout.ending) ≤ 16 }
     ensures { result ≡ front_size (layout_meant layout) (length command.entry.first.now) (length command.entry.second.now) command.entry.numbers.now (length command.entry.data.now) }
 {
     size_if(layout.idm, IDM_LEN)
@@ -50,14 +51,13 @@ fn element_size(number: u16) -> usize
 }
 
 fn ending_size(ending: Option<Ending>) -> usize
-    ensures size { result ≡ size_of (ending_meant ending) }
-    ensures bound { result ≤ 16 }
+    ensures { result ≡ size_of (ending_meant ending) }
 {
     match ending {
         None => 0,
+        Some(Ending::Bytes(count)) => count,
         Some(Ending::Word | Ending::Reserved) => 2,
         Some(Ending::Words | Ending::Polling) => 4,
-        Some(Ending::EightBytes | Ending::Parameter) => 8,
-        Some(Ending::SixteenBytes) => 16,
+        Some(Ending::Parameter) => 8,
     }
 }

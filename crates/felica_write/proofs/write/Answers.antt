@@ -8,7 +8,7 @@ use Rattle.felica_put.proofs.Laws.{puts_then}
 use Rattle.felica_writable.specs.Handed.{handed_by}
 use Rattle.felica_write.specs.Head.{Room, room_for}
 use Rattle.felica_write.specs.Writing.{refusal}
-use Rattle.felica_write.proofs.Outcome.{may_be_put, no_body, not_stored, all_stored}
+use Rattle.felica_write.proofs.Outcome.{narrow, may_be_put, no_body, not_stored, all_stored}
 use Rattle.felica_write.proofs.write.Goals as goal
 
 pub returns-then-not-body_ok : goal.returns-then-not-body_ok
@@ -19,7 +19,12 @@ returns-then-not-body_ok c =
 
 pub body_size-size-requires : goal.body_size-size-requires
 body_size-size-requires c =
-    may_be_put (handed_by c.args.command) _ (layout_meant c.row_of-row.result.layout) c.row_of-row.ensures (sym c.body_ok.ensures ∙ c.if-not-body_ok.false)
+    let h = handed_by c.args.command in
+    let row = c.row_of-row in
+    record {
+      ready = may_be_put h _ (layout_meant row.result.layout) row.ensures (sym c.body_ok.ensures ∙ c.if-not-body_ok.false);
+      few_fixed = (narrow h _ (layout_meant row.result.layout) row.ensures).ending;
+    }
 
 pub returns-in_err-map_err : goal.returns-in_err-map_err
 returns-in_err-map_err c =
@@ -32,7 +37,12 @@ returns-in_err-map_err c =
 
 pub put_body-requires : goal.put_body-requires
 put_body-requires c =
-    may_be_put (handed_by c.args.command) _ (layout_meant c.row_of-row.result.layout) c.row_of-row.ensures (sym c.body_ok.ensures ∙ c.if-not-body_ok.false)
+    let h = handed_by c.args.command in
+    let row = c.row_of-row in
+    record {
+      ready = may_be_put h _ (layout_meant row.result.layout) row.ensures (sym c.body_ok.ensures ∙ c.if-not-body_ok.false);
+      few_fixed = (narrow h _ (layout_meant row.result.layout) row.ensures).ending;
+    }
 
 pub returns : goal.returns
 returns c =
