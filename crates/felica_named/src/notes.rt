@@ -22,19 +22,16 @@ impl<'a> Named<'a> {
         ensures { answer_in result ≡ fields_noted text.now }
     {
         let table = names();
-        let mut named = Named {
-            text,
-            starts: [None; NAMES],
-        };
+        let mut starts = [None; NAMES];
         let mut at = 0;
         // Each field begins with its space; a first one need not have it. `at` is summed up, since `starts` holds places in the text and `chunk_by` gives the fields alone.
         for field in text.chunk_by(|_, next| *next != b' ') {
-            if let Err(fault) = note(table, field, at, &mut named.starts) {
+            if let Err(fault) = note(table, field, at, &mut starts) {
                 return Err(FieldFault { fault, at });
             }
             at += field.len();
         }
-        Ok(named)
+        Ok(Named { text, starts })
     }
 }
 

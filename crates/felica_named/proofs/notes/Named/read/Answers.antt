@@ -13,7 +13,7 @@ use Rattle.felica_named.proofs.notes.Named.read.Goals.{In-Some, In-None}
 
 pub loop-field-init : goal.loop-field-init
 unfolding names
-loop-field-init c = record { text = refl; inside = omega arith; left = cc; walks = record { turns = length c.args.text.now; room = omega arith; same = refl } }
+loop-field-init c = record { inside = omega arith; left = cc; walks = record { turns = length c.args.text.now; room = omega arith; same = refl } }
 
 some_left : (c : In-Some) → c.loop-field.at < length c.args.text.now
 some_left c =
@@ -31,7 +31,7 @@ pub returns-in-Err : goal.returns-in-Err
 returns-in-Err c =
     let l = c.loop-field in
     let d = (goal.at.returns-in-Err c).In-Some in
-    let wrong : note names (field_at c.args.text.now l.at) l.at l.named.starts ≡ Err c.in-Err.fault = cc (its_field d, c.in-Err.ensures) in
+    let wrong : note names (field_at c.args.text.now l.at) l.at l.starts ≡ Err c.in-Err.fault = cc (its_field d, c.in-Err.ensures) in
     sym (ap (noted_of c.args.text.now) (walk_wrong names c.args.text.now _ _ wrong (some_left d) l.invariant.walks))
 
 pub loop-field-preserved : goal.loop-field-preserved
@@ -39,9 +39,8 @@ loop-field-preserved c =
     let l = c.loop-field in
     let d = (goal.at.loop-field-preserved c).In-Some in
     let f = its_field d in
-    let whole : note names (field_at c.args.text.now l.at) l.at l.named.starts ≡ Ok c.note.new.starts = cc (f, c.in_default.ensures) in
+    let whole : note names (field_at c.args.text.now l.at) l.at l.starts ≡ Ok c.note.new.starts = cc (f, c.in_default.ensures) in
     record {
-      text = l.invariant.text;
       inside = rw f (field_inside c.args.text.now l.at (some_left d)).inside;
       left = chunk_rest c.args.text.now l.at c.in-Some.field.now l.invariant.left c.in-Some.ensures.steps.0;
       walks = rw f (walk_on names c.args.text.now _ _ whole (some_left d) l.invariant.walks);
@@ -51,6 +50,4 @@ none_left : (c : In-None) → length c.args.text.now ≤ c.loop-field.at
 none_left c = omega (arith, c.in-None.ensures.steps.0, ap length c.loop-field.invariant.left, length-drop c.loop-field.at c.args.text.now)
 
 pub returns : goal.returns
-returns c =
-    let e = none_left ((goal.at.returns c).In-None) in
-    rw c.loop-field.invariant.text (sym (ap (noted_of c.args.text.now) (walk_end names c.args.text.now _ _ c.loop-field.invariant.walks e)))
+returns c = let e = none_left ((goal.at.returns c).In-None) in sym (ap (noted_of c.args.text.now) (walk_end names c.args.text.now _ _ c.loop-field.invariant.walks e))

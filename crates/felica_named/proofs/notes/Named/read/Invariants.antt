@@ -9,8 +9,7 @@ use Rattle.felica_named.proofs.notes.Named.read.Given as goal
 
 abbrev pub invariant-loop-field : goal.invariant-loop-field
 invariant-loop-field l = record {
-  text : l.named.text.now ≡ l.text;
   inside : l.at ≤ length l.text;
   left : chunk_by_rest l.field-iterator ≡ drop l.at l.text;
-  walks : Walks names l.text l.at l.named.starts (starts_noted l.text);
+  walks : Walks names l.text l.at l.starts (starts_noted l.text);
 }
