@@ -8,6 +8,5 @@ use Rattle.felica_writing.proofs.answer_write.Goals as goal
 pub returns-in-Err : goal.returns-in-Err
 unfolding write_answer
 returns-in-Err c =
-    let noted = rw c.in-Err.is at c.read.ensures in
-    rw (le-ltb _ _ c.if-size-gt-MAX_ROOM.false, ← noted)
+    rw (le-ltb _ _ c.if-size-gt-MAX_ROOM.false, ← c.in-Err.ensures)
     (puts_then (puts_then c.put_fault-in-Err.ensures c.put_all.ensures) (rw c.name.ensures at c.put_all-in-Err.ensures))
