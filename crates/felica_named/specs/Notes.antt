@@ -33,6 +33,15 @@ abbrev pub noted : Result (Unit {0}) Fault → Starts → Result Starts Fault
 noted (Ok u) starts = Ok starts
 noted (Err fault) starts = Err fault
 
+-- the fields before any is noted
+abbrev pub unread : List ℕ → Noted
+unread s = record { text = s; starts = no_starts }
+
+-- the same of a walk over all fields
+abbrev pub noted_by : Result (Unit {0}) FieldFault → Starts → Result Starts FieldFault
+noted_by (Ok u) starts = Ok starts
+noted_by (Err wrong) starts = Err wrong
+
 -- a field with the space before it; how long the name is with that space; the form that stands in the table n bytes behind a place
 abbrev pub field_at : List ℕ → ℕ → List ℕ
 field_at s at = take (1 + length (before (code " ") (drop (at + 1) s))) (drop at s)

@@ -1,7 +1,8 @@
 // A walk along the fields. Each is noted by where its value begins, at the number of its name, or what is wrong with it is told.
 ghost use Rattle.std.specs.Prelude.{◌≡◌, ◌+◌, ◌<◌, ◌^◌, length};
-ghost use Rattle.felica_named.specs.Notes.{noted, fields_noted, note, note_value, form_of, slot_of};
-ghost use Rattle.felica_named.specs.Named.{answer_in};
+ghost use Rattle.felica_named.specs.Names.{names};
+ghost use Rattle.felica_named.specs.Notes.{noted, noted_by, note_from, unread, fields_noted, note, note_value, form_of, slot_of};
+ghost use Rattle.felica_named.specs.Named.{noted_in, answer_in};
 
 use crate::fault::FieldFault;
 use crate::form::Form;
@@ -18,21 +19,47 @@ pub struct Named<'a> {
 }
 
 impl<'a> Named<'a> {
+    // None of its fields is noted yet.
+    #[tactic(auto, unfolding(crate::specs::Names::names))]
+    pub fn unread(text: &'a [u8]) -> Named<'a>
+        ensures { noted_in result ≡ unread text.now }
+    {
+        Named {
+            text,
+            starts: [None; NAMES],
+        }
+    }
+
     pub fn read(text: &'a [u8]) -> Result<Named<'a>, FieldFault>
         ensures { answer_in result ≡ fields_noted text.now }
     {
-        let table = names();
-        let mut starts = [None; NAMES];
-        let mut at = 0;
-        // Each field begins with its space; a first one need not have it. `at` is summed up, since `starts` holds places in the text and `chunk_by` gives the fields alone.
-        for field in text.chunk_by(|_, next| *next != b' ') {
-            if let Err(fault) = note(table, field, at, &mut starts) {
-                return Err(FieldFault { fault, at });
-            }
-            at += field.len();
-        }
-        Ok(Named { text, starts })
+        let mut named = Named::unread(text);
+        named.note_fields()?;
+        Ok(named)
     }
+
+    // Notes the fields beside those that are noted. Where it is noted is the caller's to keep: a value answered by `read` is copied twice, 3 KB each time.
+    pub fn note_fields(&mut self) -> Result<(), FieldFault>
+        ensures text { self.new.text ≡ self.old.text }
+        ensures noted { noted_by result self.new.starts ≡ note_from (length self.old.text.now) names self.old.text.now 0 self.old.starts }
+    {
+        note_all(self.text, &mut self.starts)
+    }
+}
+
+fn note_all(text: &[u8], starts: &mut [Option<usize>]) -> Result<(), FieldFault>
+    ensures { noted_by result starts.new ≡ note_from (length text.now) names text.now 0 starts.old }
+{
+    let table = names();
+    let mut at = 0;
+    // Each field begins with its space; a first one need not have it. `at` is summed up, since `starts` holds places in the text and `chunk_by` gives the fields alone.
+    for field in text.chunk_by(|_, next| *next != b' ') {
+        if let Err(fault) = note(table, field, at, starts) {
+            return Err(FieldFault { fault, at });
+        }
+        at += field.len();
+    }
+    Ok(())
 }
 
 // The table is passed on, since the definitions speak of any.

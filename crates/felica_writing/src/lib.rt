@@ -40,8 +40,9 @@ pub fn answer_write(size: usize, code: u8, text: &[u8], out: &mut Output<u8>)
         put_fault(out, Fault::BufferTooLong);
         return;
     }
-    match Named::read(text) {
-        Ok(named) => answer_named(size, code, &named, out),
+    let mut named = Named::unread(text);
+    match named.note_fields() {
+        Ok(()) => answer_named(size, code, &named, out),
         Err(wrong) => {
             put_fault(out, wrong.fault);
             out.put_all(b": ");

@@ -1,15 +1,15 @@
--- `felica_named::notes::Named::read` meets its contract: field after field.
+-- `felica_named::notes::note_all` meets its contract: field after field.
 -- Assumes nothing.
 use Rattle.std.proofs.Common.{◌≤◌, ◌<◌, ◌≡◌, ap, sym, refl, length, length-drop, length-append, arith, rules, tests}
 use Rattle.std.specs.Prelude.{Ok, Err}
 use Rattle.std.specs.Slice.Iter.{chunk_by_rest}
 use Rattle.std.proofs.lemmas.Fn.{always_returns_same}
 use Rattle.felica_named.specs.Names.{names}
-use Rattle.felica_named.specs.Notes.{field_at, note, noted_of}
+use Rattle.felica_named.specs.Notes.{field_at, note}
 use Rattle.felica_named.proofs.Chunks.{goes_on, chunk_field, chunk_rest}
 use Rattle.felica_named.proofs.Noting.{field_inside, walk_end, walk_wrong, walk_on}
-use Rattle.felica_named.proofs.notes.Named.read.Goals as goal
-use Rattle.felica_named.proofs.notes.Named.read.Goals.{In-Some, In-None}
+use Rattle.felica_named.proofs.notes.note_all.Goals as goal
+use Rattle.felica_named.proofs.notes.note_all.Goals.{In-Some, In-None}
 
 pub loop-field-init : goal.loop-field-init
 unfolding names
@@ -32,7 +32,7 @@ returns-in-Err c =
     let l = c.loop-field in
     let d = (goal.at.returns-in-Err c).In-Some in
     let wrong : note names (field_at c.args.text.now l.at) l.at l.starts ≡ Err c.in-Err.fault = cc (its_field d, c.in-Err.ensures) in
-    sym (ap (noted_of c.args.text.now) (walk_wrong names c.args.text.now _ _ wrong (some_left d) l.invariant.walks))
+    sym (walk_wrong names c.args.text.now _ _ wrong (some_left d) l.invariant.walks)
 
 pub loop-field-preserved : goal.loop-field-preserved
 loop-field-preserved c =
@@ -50,4 +50,4 @@ none_left : (c : In-None) → length c.args.text.now ≤ c.loop-field.at
 none_left c = omega (arith, c.in-None.ensures.steps.0, ap length c.loop-field.invariant.left, length-drop c.loop-field.at c.args.text.now)
 
 pub returns : goal.returns
-returns c = let e = none_left ((goal.at.returns c).In-None) in sym (ap (noted_of c.args.text.now) (walk_end names c.args.text.now _ _ c.loop-field.invariant.walks e))
+returns c = let e = none_left ((goal.at.returns c).In-None) in sym (walk_end names c.args.text.now _ _ c.loop-field.invariant.walks e)
