@@ -18,11 +18,10 @@
  * The archive is for x86-64 Linux, on processors of the level x86-64-v2 (with SSE4.2). It has an object file for each
  * of the seven functions, so that a program gets those alone that it calls: 42 KB of code (.text.*) and 3 KB of
  * constants (.rodata.*) in all, 3 to 5 KB for a parser. It has no data, no constructors and no tables for unwinding,
- * and is position independent. The writer needs memcpy, memmove and memset from outside, the parser and the list reader
- * nothing.
+ * and is position independent. The writer needs memcpy and memset from outside, the parser and the list reader nothing.
  *
- * Of the stack the parser takes at most 152 bytes, the list reader 226, the writer 256 and what memcpy and the other
- * two take. This is with the return address and with what lies below the stack pointer, where the calling convention
+ * Of the stack the parser takes at most 152 bytes, the list reader 226, the writer 288 and what memcpy and memset
+ * take. This is with the return address and with what lies below the stack pointer, where the calling convention
  * grants 128 bytes; each argument behind the sixth is 8 bytes besides. The figures were read from the instructions, and
  * a stack that was filled with a pattern before the call showed the same (rattle-kit-13f).
  *

@@ -5,8 +5,8 @@
 //! five lent buffers. The writer makes the shortest frame of a plain command and the shortest payload of a secure one.
 //! include/felica.h has the contracts, the table of what each command has, and the numbers of the refusals.
 //!
-//! With the archive of c/archive no function panics. The package needs `core` alone, the archive's writer `memcpy`,
-//! `memmove` and `memset`.
+//! With the archive of c/archive no function panics. The package needs `core` alone, the archive's writer `memcpy`
+//! and `memset`.
 
 #![no_std]
 
