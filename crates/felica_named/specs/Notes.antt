@@ -37,7 +37,7 @@ noted (Err fault) starts = Err fault
 abbrev pub unread : List ℕ → Noted
 unread s = record { text = s; starts = no_starts }
 
--- the same of a walk over all fields
+-- what is wrong with one of the fields, or the starts with all of them noted
 abbrev pub noted_by : Result (Unit {0}) FieldFault → Starts → Result Starts FieldFault
 noted_by (Ok u) starts = Ok starts
 noted_by (Err wrong) starts = Err wrong
